@@ -1,0 +1,31 @@
+// The card: the machine, one step of it, and a run.
+use cp0::Cp0;
+use effect::Cpu;
+
+// The whole machine but for its memory; `tlb` holds 48 slots of four numbers.
+pub struct Machine {
+    pub cpu: Cpu,
+    pub cp0: Cp0,
+    pub regs: [u64; 32],
+    pub tlb: [u64; 192],
+}
+
+// What a step leaves besides what it is lent.
+pub struct Cored {
+    pub cpu: Cpu,
+    pub cp0: Cp0,
+    pub stop: u8,
+}
+
+// A machine after a step, and the number of document 01's table.
+pub struct Stepped {
+    pub machine: Machine,
+    pub stop: u8,
+}
+
+// A machine after a run, the counted steps, and the number of document 01's table.
+pub struct Ran {
+    pub machine: Machine,
+    pub steps: u64,
+    pub stop: u8,
+}

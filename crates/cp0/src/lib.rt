@@ -1,0 +1,51 @@
+// CP0: the kept registers, moves to and from them, the mode, exceptions, and the end of a step.
+use memory::PAddr;
+use tlb::VAddr;
+
+// The registers that are kept, 0 to 6, 8 to 17 and 28 to 30, by their manual names.
+pub struct Cp0 {
+    pub index: u32,
+    pub random: u32,
+    pub entrylo0: u32,
+    pub entrylo1: u32,
+    pub context: u64,
+    pub pagemask: u32,
+    pub wired: u32,
+    pub badvaddr: u64,
+    pub count: u32,
+    pub entryhi: u64,
+    pub compare: u32,
+    pub status: u32,
+    pub cause: u32,
+    pub epc: u64,
+    pub prid: u32,
+    pub config: u32,
+    pub lladdr: u32,
+    pub taglo: u32,
+    pub taghi: u32,
+    pub errorepc: u64,
+}
+
+// The exceptions by their manual names, with what each brings along: the bad address, whether no slot matched, the unit.
+pub enum Exception {
+    Int,
+    Mod(VAddr),
+    TLBL { bad: VAddr, refill: bool },
+    TLBS { bad: VAddr, refill: bool },
+    AdEL(VAddr),
+    AdES(VAddr),
+    IBE,
+    DBE,
+    Sys,
+    Bp,
+    RI,
+    CpU(u8),
+    Ov,
+    Tr,
+}
+
+// Whether a move's value is built, or is stop 18.
+pub enum Move {
+    Built,
+    NotBuilt,
+}

@@ -1,0 +1,4 @@
+pub mod Unique
+pub mod Pick
+pub mod Bits
+pub mod Table

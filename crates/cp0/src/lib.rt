@@ -49,3 +49,18 @@ pub enum Move {
     Built,
     NotBuilt,
 }
+
+// The address that an exception leaves: none; the one of an address error; the one of a TLB exception.
+pub enum Bad {
+    Nothing,
+    Address(VAddr),
+    Page(VAddr),
+}
+
+// What an exception tells: its code, the unit for CE, whether it is a refill, and its address.
+pub struct Told {
+    pub code: u32,
+    pub unit: u32,
+    pub refill: bool,
+    pub bad: Bad,
+}

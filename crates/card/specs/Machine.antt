@@ -5,10 +5,10 @@ use mathlib.Core.List.{List, [], _∷_}
 use lib.Dec.{eqb}
 use lib.ListN.{getD}
 use Rattle.promise.specs.Pick.{pick, both, either}
-use Rattle.tlb.specs.Slot.{tlbInRange}
+use Rattle.tlb.specs.Range.{tlbInRange}
 use Rattle.cp0.specs.declared.Cp0.{Cp0}
 use Rattle.cp0.specs.Range.{cp0InRange}
-use Rattle.cp0.specs.Registers.{freshCp0}
+use Rattle.cp0.specs.Registers as cp0
 use Rattle.effect.specs.declared.Cpu.{Cpu}
 use Rattle.effect.specs.After.{cpuOf}
 use Rattle.card.specs.declared.Machine.{Machine}
@@ -28,7 +28,7 @@ freshSlots (suc n) i = 0 ∷ 0x80000000 + i * 0x2000 ∷ 0 ∷ 0 ∷ freshSlots 
 
 -- PC BFC00000 sign-extended, CP0 as its rules say, all else 0, and the 48 slots (T29)
 unfoldable pub fresh : Machine
-fresh = machine (cpuOf 0xffffffffbfc00000 false 0 0 0 false) freshCp0 (zeros 32) (freshSlots 48 0)
+fresh = machine (cpuOf 0xffffffffbfc00000 false 0 0 0 false) cp0.fresh (zeros 32) (freshSlots 48 0)
 
 -- no target without a slot (N23)
 unfoldable pub cpuInRange : Cpu → Bool

@@ -8,7 +8,7 @@ use Rattle.promise.specs.Pick.{pick}
 use Rattle.memory.specs.Memory.{read, putBytes}
 use Rattle.tlb.specs.Slot.{putSlot}
 use Rattle.effect.specs.declared.Effect.{Effect}
-use Rattle.effect.specs.Step.{effect}
+use Rattle.effect.specs.Step.{effectOf}
 use Rattle.effect.specs.After.{cpuAfter, cp0After}
 use Rattle.card.specs.declared.Machine.{Machine}
 use Rattle.card.specs.declared.Cored.{Cored}
@@ -38,7 +38,7 @@ apply m ram e =
 
 -- one step (S1)
 unfoldable pub stepOf : Machine → List ℕ → List ℕ → ℕ → Out
-stepOf m ram rom lines = apply m ram (effect (m .cpu) (m .cp0) (m .regs) (m .tlb) (read ram rom) lines)
+stepOf m ram rom lines = apply m ram (effectOf (m .cpu) (m .cp0) (m .regs) (m .tlb) (read ram rom) lines)
 
 -- the code did it: what it returned and left behind is the step's outcome
 pub record Did (o : Out) (r : Cored) (regs tlb ram : List ℕ) : Type 0 where

@@ -58,10 +58,14 @@ loaded op reg old v look AddressError = raised (AdEL v)
 abbrev pub linkBit : Bool → ℕ
 linkBit b = pick b 1 0
 
+-- what SC and SCD let out to memory
+abbrev pub ifLinked : Bool → Store → Store
+ifLinked b s = pick b s Nowhere
+
 -- SC and SCD store only if the link bit is set, and write the bit to rt; every other store just stores (A14)
 unfoldable pub sending : StoreOp → ℕ → Bool → Store → Effect
-sending SC reg link s = effects Next reg (linkBit link) Keep (pick link s Nowhere) 0
-sending SCD reg link s = effects Next reg (linkBit link) Keep (pick link s Nowhere) 0
+sending SC reg link s = effects Next reg (linkBit link) Keep (ifLinked link s) 0
+sending SCD reg link s = effects Next reg (linkBit link) Keep (ifLinked link s) 0
 sending SB reg link s = effects Next 0 0 Keep s 0
 sending SH reg link s = effects Next 0 0 Keep s 0
 sending SW reg link s = effects Next 0 0 Keep s 0

@@ -5,7 +5,8 @@ use lib.Dec.{eqb}
 use Rattle.promise.specs.Pick.{pick}
 use Rattle.memory.specs.declared.PAddr.{PAddr}
 use Rattle.cp0.specs.declared.Cp0.{Cp0}
-use Rattle.cp0.specs.Moves.{moveIn, linked, slotRead, probed}
+use Rattle.cp0.specs.Registers.{Wired, linked, slotRead, probed}
+use Rattle.cp0.specs.Moves.{moveIn}
 use Rattle.cp0.specs.Exceptions.{entered, vector, returned, returnTo}
 use Rattle.cp0.specs.Tick.{ended}
 use Rattle.effect.specs.declared.Cpu.{Cpu}
@@ -23,13 +24,17 @@ further pc n = (pc + n) % 2 ^ 64
 unfoldable pub onward : Cpu → ℕ → ℕ → Bool → Cpu
 onward cpu hi lo link = cpuOf (pick (cpu .slot) (cpu .target) (further (cpu .pc) 4)) false 0 hi lo link
 
+-- a branch leaves its slot pending, with where it leads (S13)
+unfoldable pub pending : Cpu → ℕ → Cpu
+pending cpu to = cpuOf (further (cpu .pc) 4) true to (cpu .hi) (cpu .lo) (cpu .link)
+
 -- at an address, with nothing pending
 unfoldable pub arrived : Cpu → ℕ → Bool → Cpu
 arrived cpu pc link = cpuOf pc false 0 (cpu .hi) (cpu .lo) link
 
 unfoldable pub cpuAfter : Cpu → Cp0 → Turn → Cpu
 cpuAfter cpu cp0 Next = onward cpu (cpu .hi) (cpu .lo) (cpu .link)
-cpuAfter cpu cp0 (Branch to) = cpuOf (further (cpu .pc) 4) true to (cpu .hi) (cpu .lo) (cpu .link)
+cpuAfter cpu cp0 (Branch to) = pending cpu to
 cpuAfter cpu cp0 Skip = arrived cpu (further (cpu .pc) 8) (cpu .link)
 cpuAfter cpu cp0 (HiLo hi lo) = onward cpu hi lo (cpu .link)
 cpuAfter cpu cp0 (Link p) = onward cpu (cpu .hi) (cpu .lo) true
@@ -40,7 +45,7 @@ cpuAfter cpu cp0 (Probed i) = onward cpu (cpu .hi) (cpu .lo) (cpu .link)
 cpuAfter cpu cp0 Eret = arrived cpu (returnTo cp0) false
 cpuAfter cpu cp0 Stay = cpu
 
--- register 6 is Wired: the step that writes it does not move Random (S10)
+-- the step that writes Wired does not move Random (S10)
 unfoldable pub cp0After : ℕ → Bool → Cp0 → Turn → Cp0
 cp0After pc slot cp0 Next = ended false cp0
 cp0After pc slot cp0 (Branch to) = ended false cp0
@@ -48,7 +53,7 @@ cp0After pc slot cp0 Skip = ended false cp0
 cp0After pc slot cp0 (HiLo hi lo) = ended false cp0
 cp0After pc slot cp0 (Link p) = ended false (linked cp0 p)
 cp0After pc slot cp0 (Enter e) = ended false (entered cp0 pc slot e)
-cp0After pc slot cp0 (Move number value) = ended (eqb number 6) (moveIn cp0 number value)
+cp0After pc slot cp0 (Move number value) = ended (eqb number Wired) (moveIn cp0 number value)
 cp0After pc slot cp0 (Read s) = ended false (slotRead cp0 s)
 cp0After pc slot cp0 (Probed i) = ended false (probed cp0 i)
 cp0After pc slot cp0 Eret = ended false (returned cp0)

@@ -5,7 +5,6 @@ use mathlib.Core.Bool.{Bool, true, false}
 use lib.Dec.{eqb}
 use lib.ListN.{getD}
 use Rattle.promise.specs.Pick.{pick}
-use Rattle.promise.specs.Bits.{set?}
 use Rattle.word.specs.Word.{extend}
 use Rattle.memory.specs.declared.PAddr.{PAddr}
 use Rattle.memory.specs.declared.Eight.{Eight}
@@ -13,29 +12,29 @@ use Rattle.memory.specs.declared.Eight.the-variants.{Ram, Rom, Missing}
 use Rattle.memory.specs.declared.Store.the-variants.{Nowhere}
 use Rattle.memory.specs.Loads.{lwu}
 use Rattle.tlb.specs.declared.VAddr.{VAddr}
-use Rattle.tlb.specs.declared.Mode.{Mode}
 use Rattle.tlb.specs.declared.Slot.{Slot}
 use Rattle.tlb.specs.declared.SlotWrite.the-variants.{Keep, Put}
 use Rattle.tlb.specs.declared.SlotRead.{SlotRead}
-use Rattle.tlb.specs.declared.SlotRead.the-variants as slot
+use Rattle.tlb.specs.declared.SlotRead.the-variants as read
 use Rattle.tlb.specs.declared.Probe.{Probe}
 use Rattle.tlb.specs.declared.Probe.the-variants as probed
 use Rattle.tlb.specs.declared.Where.{Where}
 use Rattle.tlb.specs.declared.Where.the-variants.{Mapped, Unmapped, Invalid, Refill, Double, AddressError}
-use Rattle.tlb.specs.Translate.{translate}
-use Rattle.tlb.specs.Slot.{readSlot}
+use Rattle.tlb.specs.Segments.{translate}
+use Rattle.tlb.specs.Slot.{asidOf, slot, readSlot}
 use Rattle.tlb.specs.Probe.{probe}
+use Rattle.tlb.specs.Translate.{vaddr}
 use Rattle.cp0.specs.declared.Cp0.{Cp0}
 use Rattle.cp0.specs.declared.Exception.the-variants.{Int, TLBL, AdEL, IBE, RI, CpU}
 use Rattle.cp0.specs.declared.Move.{Move}
 use Rattle.cp0.specs.declared.Move.the-variants.{Built, NotBuilt}
-use Rattle.cp0.specs.Status.{modeOf, user, interrupted}
+use Rattle.cp0.specs.Status.{CU0, modeOf, user, interrupted}
 use Rattle.cp0.specs.Moves.{moveOut, checkMove}
 use Rattle.decode.specs.declared.TlbOp.{TlbOp}
 use Rattle.decode.specs.declared.TlbOp.the-variants.{TLBR, TLBWI, TLBWR, TLBP}
 use Rattle.decode.specs.declared.Ready.{Ready}
 use Rattle.decode.specs.declared.Ready.the-variants.{Go, Unusable, Reserved, InSlot}
-use Rattle.decode.specs.Fields.{rsOf, rtOf}
+use Rattle.decode.specs.Fields.{rs, rt}
 use Rattle.decode.specs.Decode.{decode}
 use Rattle.decode.specs.Ready.{ready}
 use Rattle.execute.specs.declared.Act.{Act}
@@ -48,25 +47,18 @@ use Rattle.effect.specs.declared.Effect.{Effect}
 use Rattle.effect.specs.Effect.{effects, turned, wrote, raised, stopped}
 use Rattle.effect.specs.Access.{loaded, saved}
 
-abbrev pub vaddr : ℕ → VAddr
-vaddr x = record { 0 = x }
-
--- the ASID that an access is made with: EntryHi 7..0
-abbrev pub asidOf : Cp0 → ℕ
-asidOf cp0 = cp0 .entryhi % 256
-
 -- where an address leads, by the mode and the ASID that CP0 holds
 abbrev pub leads : Cp0 → List ℕ → ℕ → VAddr → Where
-leads cp0 tlb align v = translate (modeOf (cp0 .status)) (asidOf cp0) tlb align v
+leads cp0 tlb align v = translate (modeOf (cp0 .status)) (asidOf (cp0 .entryhi)) tlb align v
 
 -- the four registers that a TLB write takes its values from (T6)
 abbrev pub moved : Cp0 → Slot
-moved cp0 = record { mask = cp0 .pagemask; hi = cp0 .entryhi; lo0 = cp0 .entrylo0; lo1 = cp0 .entrylo1 }
+moved cp0 = slot (cp0 .pagemask) (cp0 .entryhi) (cp0 .entrylo0) (cp0 .entrylo1)
 
 -- TLBR: PageMask, EntryHi and EntryLo from the slot, or nothing for a slot of 48 or more (T9)
 unfoldable pub fromSlot : SlotRead → Effect
-fromSlot (slot.Is s) = turned (turn.Read s)
-fromSlot slot.Nothing = turned turn.Next
+fromSlot (read.Is s) = turned (turn.Read s)
+fromSlot read.Nothing = turned turn.Next
 
 -- TLBP: Index, or stop 16 (N18)
 unfoldable pub fromProbe : Probe → Effect
@@ -89,26 +81,30 @@ movedTo number value NotBuilt = stopped 18
 abbrev pub movedFrom : Bool → ℕ → ℕ
 movedFrom double x = pick double x (extend x)
 
--- what an instruction asks for is done; `rt` is the value of its register rt
+-- the address of the instruction after the delay slot, which a link is (A10)
+abbrev pub afterSlot : ℕ → ℕ
+afterSlot pc = (pc + 8) % 2 ^ 64
+
+-- what an instruction asks for is done; `value` is that of its register rt
 unfoldable pub asked : Cpu → Cp0 → List ℕ → (PAddr → Eight) → ℕ → ℕ → Act → Effect
-asked cpu cp0 tlb look lines rt act.Nothing = turned turn.Next
-asked cpu cp0 tlb look lines rt (act.Write reg value) = wrote reg value
-asked cpu cp0 tlb look lines rt (act.HiLo hi lo) = turned (turn.HiLo hi lo)
-asked cpu cp0 tlb look lines rt (act.Branch to link) = effects (turn.Branch to) link ((cpu .pc + 8) % 2 ^ 64) Keep Nowhere 0
-asked cpu cp0 tlb look lines rt (act.Skip link) = effects turn.Skip link ((cpu .pc + 8) % 2 ^ 64) Keep Nowhere 0
-asked cpu cp0 tlb look lines rt (act.Load op reg at) = loaded op reg rt at look (leads cp0 tlb (loadAlign op) at)
-asked cpu cp0 tlb look lines rt (act.Store op reg at) = saved op reg (cpu .link) rt at look (leads cp0 tlb (storeAlign op) at)
-asked cpu cp0 tlb look lines rt (act.Raise e) = raised e
-asked cpu cp0 tlb look lines rt (act.MoveFrom reg number double) = wrote reg (movedFrom double (moveOut cp0 lines number))
-asked cpu cp0 tlb look lines rt (act.MoveTo number value) = movedTo number value (checkMove number value)
-asked cpu cp0 tlb look lines rt (act.Tlb op) = tlbDone op cp0 tlb
-asked cpu cp0 tlb look lines rt act.Eret = turned turn.Eret
+asked cpu cp0 tlb look lines value act.Nothing = turned turn.Next
+asked cpu cp0 tlb look lines value (act.Write reg v) = wrote reg v
+asked cpu cp0 tlb look lines value (act.HiLo hi lo) = turned (turn.HiLo hi lo)
+asked cpu cp0 tlb look lines value (act.Branch to link) = effects (turn.Branch to) link (afterSlot (cpu .pc)) Keep Nowhere 0
+asked cpu cp0 tlb look lines value (act.Skip link) = effects turn.Skip link (afterSlot (cpu .pc)) Keep Nowhere 0
+asked cpu cp0 tlb look lines value (act.Load op reg at) = loaded op reg value at look (leads cp0 tlb (loadAlign op) at)
+asked cpu cp0 tlb look lines value (act.Store op reg at) = saved op reg (cpu .link) value at look (leads cp0 tlb (storeAlign op) at)
+asked cpu cp0 tlb look lines value (act.Raise e) = raised e
+asked cpu cp0 tlb look lines value (act.MoveFrom reg number double) = wrote reg (movedFrom double (moveOut cp0 lines number))
+asked cpu cp0 tlb look lines value (act.MoveTo number v) = movedTo number v (checkMove number v)
+asked cpu cp0 tlb look lines value (act.Tlb op) = tlbDone op cp0 tlb
+asked cpu cp0 tlb look lines value act.Eret = turned turn.Eret
 
 -- a word that may be executed, or what it raises or stops instead (S6)
 unfoldable pub readied : Cpu → Cp0 → List ℕ → List ℕ → (PAddr → Eight) → ℕ → ℕ → Ready → Effect
 readied cpu cp0 regs tlb look lines w (Go i) =
-    asked cpu cp0 tlb look lines (getD regs (rtOf w) 0)
-    (execute i (cpu .pc) (getD regs (rsOf w) 0) (getD regs (rtOf w) 0) (cpu .hi) (cpu .lo))
+    asked cpu cp0 tlb look lines (getD regs (rt w) 0)
+    (execute i (cpu .pc) (getD regs (rs w) 0) (getD regs (rt w) 0) (cpu .hi) (cpu .lo))
 readied cpu cp0 regs tlb look lines w (Unusable u) = raised (CpU u)
 readied cpu cp0 regs tlb look lines w Reserved = raised RI
 readied cpu cp0 regs tlb look lines w InSlot = stopped 17
@@ -116,7 +112,7 @@ readied cpu cp0 regs tlb look lines w InSlot = stopped 17
 -- a fetched word is decoded
 unfoldable pub decoded : Cpu → Cp0 → List ℕ → List ℕ → (PAddr → Eight) → ℕ → ℕ → Effect
 decoded cpu cp0 regs tlb look lines w =
-    readied cpu cp0 regs tlb look lines w (ready (user (cp0 .status)) (set? (cp0 .status) 28) (cpu .slot) (decode w))
+    readied cpu cp0 regs tlb look lines w (ready (user (cp0 .status)) (CU0 (cp0 .status)) (cpu .slot) (decode w))
 
 -- the eight bytes that the fetch found, or a bus error
 unfoldable pub begun : Cpu → Cp0 → List ℕ → List ℕ → (PAddr → Eight) → ℕ → PAddr → Eight → Effect
@@ -134,8 +130,8 @@ fetched cpu cp0 regs tlb look lines Double = stopped 16
 fetched cpu cp0 regs tlb look lines AddressError = raised (AdEL (vaddr (cpu .pc)))
 
 -- a step: stop 19 first of all, then the interrupt, then the fetch (N13, S2)
-unfoldable pub effect : Cpu → Cp0 → List ℕ → List ℕ → (PAddr → Eight) → ℕ → Effect
-effect cpu cp0 regs tlb look lines =
+unfoldable pub effectOf : Cpu → Cp0 → List ℕ → List ℕ → (PAddr → Eight) → ℕ → Effect
+effectOf cpu cp0 regs tlb look lines =
     pick (eqb (getD regs 0 0) 0)
-    (pick (interrupted cp0 lines) (raised Int) (fetched cpu cp0 regs tlb look lines (leads cp0 tlb 4 (vaddr (cpu .pc)))))
+    (pick (interrupted (cp0 .status) (cp0 .cause) lines) (raised Int) (fetched cpu cp0 regs tlb look lines (leads cp0 tlb 4 (vaddr (cpu .pc)))))
     (stopped 19)

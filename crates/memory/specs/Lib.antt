@@ -1,1 +1,6 @@
--- The rulebook's memory.
+-- The rulebook's memory: reading it, loads, unaligned loads, stores, and the laws of each.
+pub mod Bytes
+pub mod Memory
+pub mod Loads
+pub mod Unaligned
+pub mod Stores

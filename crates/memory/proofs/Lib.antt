@@ -1,0 +1,3 @@
+-- Why the functions meet their definitions.
+pub mod Cards
+pub mod Tables

@@ -39,6 +39,7 @@ use Rattle.decode.specs.Decode.{decode}
 use Rattle.decode.specs.Ready.{ready}
 use Rattle.execute.specs.declared.Act.{Act}
 use Rattle.execute.specs.declared.Act.the-variants as act
+use Rattle.execute.specs.Address.{afterSlot}
 use Rattle.execute.specs.LoadStore.{loadAlign, storeAlign}
 use Rattle.execute.specs.Execute.{execute}
 use Rattle.effect.specs.declared.Cpu.{Cpu}
@@ -80,10 +81,6 @@ movedTo number value NotBuilt = stopped 18
 -- what MFC0 and DMFC0 bring: MFC0 takes the low word (T15)
 abbrev pub movedFrom : Bool → ℕ → ℕ
 movedFrom double x = pick double x (extend x)
-
--- the address of the instruction after the delay slot, which a link is (A10)
-abbrev pub afterSlot : ℕ → ℕ
-afterSlot pc = (pc + 8) % 2 ^ 64
 
 -- what an instruction asks for is done; `value` is that of its register rt
 unfoldable pub asked : Cpu → Cp0 → List ℕ → (PAddr → Eight) → ℕ → ℕ → Act → Effect

@@ -35,7 +35,7 @@ EXL status = set? status 1
 
 -- interrupts are enabled
 abbrev pub IE : ℕ → Bool
-IE status = set? status 0
+IE status = eqb (status % 2) 1
 
 -- User mode: KSU is 2 and neither EXL nor ERL is set (D5)
 unfoldable pub user : ℕ → Bool
@@ -50,10 +50,12 @@ unfoldable pub cp0Usable : ℕ → Bool
 cp0Usable status = pick (user status) (CU0 status) true
 
 -- Cause as it reads: IP6..2 are the lines (T18)
-abbrev pub causeRead : ℕ → ℕ → ℕ
+unfoldable pub causeRead : ℕ → ℕ → ℕ
 causeRead cause lines = replaced cause 10 5 (lines % 2 ^ 5)
 
 -- an interrupt is taken if IE is set, EXL and ERL are clear, and IM enables one of IP7..0 that is pending (house, S2, S3, S4)
 unfoldable pub interrupted : ℕ → ℕ → ℕ → Bool
 interrupted status cause lines =
-    both (eqb (bits status 0 3) 1) (not (eqb (bitAnd (IM status) (bits (causeRead cause lines) 8 8)) 0))
+    both (IE status)
+    (both (not (either (EXL status) (ERL status)))
+    (not (eqb (bitAnd (IM status) (bits (causeRead cause lines) 8 8)) 0)))

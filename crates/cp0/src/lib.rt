@@ -1,6 +1,17 @@
 // CP0: the kept registers, moves to and from them, the mode, exceptions, and the end of a step.
-use memory::PAddr;
+mod registers;
+mod status;
+mod tick;
 use tlb::VAddr;
+pub use registers::fresh_cp0;
+pub use registers::linked;
+pub use registers::probed;
+pub use registers::slot_read;
+pub use status::cp0_usable;
+pub use status::interrupted;
+pub use status::mode_of;
+pub use status::user;
+pub use tick::ended;
 
 // The registers that are kept, 0 to 6, 8 to 17 and 28 to 30, by their manual names.
 pub struct Cp0 {

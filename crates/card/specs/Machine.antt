@@ -24,7 +24,7 @@ zeros (suc n) = 0 ∷ zeros n
 -- n slots from slot i on: slot i holds page 80000000 + i × 2000h, not valid (T29)
 unfoldable pub freshSlots : ℕ → ℕ → List ℕ
 freshSlots zero i = []
-freshSlots (suc n) i = 0 ∷ 0x80000000 + i * 0x2000 ∷ 0 ∷ 0 ∷ freshSlots n (i + 1)
+freshSlots (suc n) i = 0 ∷ (0x80000000 + i * 0x2000) ∷ 0 ∷ 0 ∷ freshSlots n (i + 1)
 
 -- PC BFC00000 sign-extended, CP0 as its rules say, all else 0, and the 48 slots (T29)
 unfoldable pub fresh : Machine

@@ -5,7 +5,8 @@ use mathlib.Core.List.{List}
 use lib.Dec.{eqb}
 use lib.ListN.{set}
 use Rattle.promise.specs.Pick.{pick}
-use Rattle.memory.specs.Memory.{read, putBytes}
+use Rattle.memory.specs.Memory.{read}
+use Rattle.memory.specs.Stores.{putBytes}
 use Rattle.tlb.specs.Slot.{putSlot}
 use Rattle.effect.specs.declared.Effect.{Effect}
 use Rattle.effect.specs.Step.{effectOf}

@@ -11,7 +11,7 @@ use Rattle.cp0.specs.declared.Bad.the-variants.{Nothing, Address, Page}
 use Rattle.cp0.specs.declared.Told.{Told}
 use Rattle.cp0.specs.declared.Exception.{Exception}
 use Rattle.cp0.specs.declared.Exception.the-variants.{Int, Mod, TLBL, TLBS, AdEL, AdES, IBE, DBE, Sys, Bp, RI, CpU, Ov, Tr}
-use Rattle.cp0.specs.Registers.{Context, BadVAddr, EntryHi, Status, Cause, EPC, set, only, replaced}
+use Rattle.cp0.specs.Registers.{Context, BadVAddr, EntryHi, Status, Cause, EPC, set, only, replaced, cleared}
 use Rattle.cp0.specs.Status.{BEV, ERL, EXL}
 
 abbrev pub tells : ℕ → ℕ → Bool → Bad → Told
@@ -48,7 +48,7 @@ bdAfter status cause slot = pick (EXL status) (bit cause 31) (pick slot 1 0)
 
 -- Cause with ExcCode, CE and BD (T19, T23, T25)
 unfoldable pub causeAfter : ℕ → ℕ → ℕ → ℕ → ℕ
-causeAfter cause code unit bd = replaced (replaced (replaced cause 2 5 code) 28 2 unit) 31 1 bd
+causeAfter cause code unit bd = bd * 2 ^ 31 + replaced (replaced cause 2 5 code) 28 2 unit % 2 ^ 31
 
 -- what an address leaves: BadVAddr always; Context 22..4 and EntryHi's page are only a TLB exception's, and both are bits 31..13 (T27)
 unfoldable pub addressed : Cp0 → Bad → Cp0
@@ -57,7 +57,7 @@ addressed c (Address v) = set c BadVAddr (v .0)
 addressed c (Page v) =
     set (set (set c BadVAddr (v .0)) Context (only (c .context) 23 41 + bits (v .0) 13 19 * 2 ^ 4))
     EntryHi
-    (only (v .0) 13 19 + only (c .entryhi) 0 8)
+    (only (v .0) 13 19 + c .entryhi % 2 ^ 8)
 
 -- the registers after an exception at pc; EXL becomes 1 (T26)
 unfoldable pub entered : Cp0 → ℕ → Bool → Exception → Cp0
@@ -66,15 +66,22 @@ entered c pc slot e =
     (set (set (set c EPC (epcAfter (c .status) (c .epc) pc slot)) Cause (causeAfter (c .cause) (told e .code) (told e .unit) (bdAfter (c .status) (c .cause) slot))) Status (replaced (c .status) 1 1 1))
     (told e .bad)
 
--- where an exception goes: the base by BEV, offset 000 for a refill found with EXL clear, else 180 (T24)
+-- the vector's offset: 000 for a refill found with EXL clear, else 180 (T24)
+unfoldable pub offset : ℕ → Bool → ℕ
+offset status refill = pick (both refill (not (EXL status))) 0x000 0x180
+
+-- where an exception goes: the base is BFC00200 with BEV set, else 80000000, both sign-extended (T24)
 unfoldable pub vector : ℕ → Exception → ℕ
-vector status e =
-    pick (BEV status) 0xffffffffbfc00200 0xffffffff80000000 + pick (both (told e .refill) (not (EXL status))) 0x000 0x180
+vector status e = pick (BEV status) 0xffffffffbfc00200 0xffffffff80000000 + offset status (told e .refill)
 
 -- ERET goes to ErrorEPC with ERL set, otherwise to EPC (A17)
 unfoldable pub returnTo : Cp0 → ℕ
 returnTo c = pick (ERL (c .status)) (c .errorepc) (c .epc)
 
 -- and clears ERL, otherwise EXL (A17)
+unfoldable pub statusReturned : ℕ → ℕ
+statusReturned status = pick (ERL status) (cleared status 2 1) (cleared status 1 1)
+
+-- the registers after ERET
 unfoldable pub returned : Cp0 → Cp0
-returned c = set c Status (pick (ERL (c .status)) (replaced (c .status) 2 1 0) (replaced (c .status) 1 1 0))
+returned c = set c Status (statusReturned (c .status))

@@ -7,7 +7,7 @@ use Rattle.promise.specs.Bits.{set?, bits}
 use Rattle.cp0.specs.declared.Cp0.{Cp0}
 use Rattle.cp0.specs.declared.Move.{Move}
 use Rattle.cp0.specs.declared.Move.the-variants.{Built, NotBuilt}
-use Rattle.cp0.specs.Registers.{Index, Random, EntryLo0, EntryLo1, Context, PageMask, Wired, BadVAddr, Count, EntryHi, Compare, Status, Cause, EPC, PRId, Config, LLAddr, TagLo, TagHi, ErrorEPC, set, low, only, replaced, keptIndex, keptEntryLo, keptWired, keptEntryHi, keptStatus}
+use Rattle.cp0.specs.Registers.{Index, Random, EntryLo0, EntryLo1, Context, PageMask, Wired, BadVAddr, Count, EntryHi, Compare, Status, Cause, EPC, PRId, Config, LLAddr, TagLo, TagHi, ErrorEPC, set, low, only, replaced, cleared, keptIndex, keptEntryLo, keptWired, keptEntryHi, keptStatus}
 use Rattle.cp0.specs.Status.{KSU, causeRead}
 
 -- the sign extension of a word
@@ -54,10 +54,10 @@ moveWord c n w =
     (pick (eqb n Wired) (set (set c Wired (keptWired w)) Random 47)
     (pick (eqb n Count) (set c Count w)
     (pick (eqb n EntryHi) (set c EntryHi (keptEntryHi w))
-    (pick (eqb n Compare) (set (set c Compare w) Cause (replaced (c .cause) 15 1 0))
+    (pick (eqb n Compare) (set (set c Compare w) Cause (cleared (c .cause) 15 1))
     (pick (eqb n Status) (set c Status (keptStatus w))
     (pick (eqb n Cause) (set c Cause (replaced (c .cause) 8 2 (bits w 8 2)))
-    (pick (eqb n Config) (set c Config (replaced (c .config) 0 3 (bits w 0 3)))
+    (pick (eqb n Config) (set c Config (c .config / 2 ^ 3 * 2 ^ 3 + w % 2 ^ 3))
     (pick (eqb n TagLo) (set c TagLo w)
     (pick (eqb n TagHi) (set c TagHi w)
     c))))))))))))

@@ -106,21 +106,25 @@ only x at many = x / 2 ^ at % 2 ^ many * 2 ^ at
 abbrev pub replaced : ℕ → ℕ → ℕ → ℕ → ℕ
 replaced x at many v = x / 2 ^ (at + many) * 2 ^ (at + many) + v * 2 ^ at + x % 2 ^ at
 
+-- x with `many` bits from `at` up clear
+abbrev pub cleared : ℕ → ℕ → ℕ → ℕ
+cleared x at many = x / 2 ^ (at + many) * 2 ^ (at + many) + x % 2 ^ at
+
 -- Index keeps P, bit 31, and bits 5..0 (T14)
 abbrev pub keptIndex : ℕ → ℕ
-keptIndex x = only x 31 1 + only x 0 6
+keptIndex x = only x 31 1 + x % 2 ^ 6
 
 -- EntryLo keeps bits 29..0 (T14)
 abbrev pub keptEntryLo : ℕ → ℕ
-keptEntryLo x = only x 0 30
+keptEntryLo x = x % 2 ^ 30
 
 -- Wired keeps bits 5..0 (T14)
 abbrev pub keptWired : ℕ → ℕ
-keptWired x = only x 0 6
+keptWired x = x % 2 ^ 6
 
 -- EntryHi keeps the page, bits 31..13, and the ASID, bits 7..0 (T14)
 abbrev pub keptEntryHi : ℕ → ℕ
-keptEntryHi x = only x 13 19 + only x 0 8
+keptEntryHi x = only x 13 19 + x % 2 ^ 8
 
 -- Context keeps bits 63..4: 63..23 are moved, 22..4 are an exception's (T14, T27)
 abbrev pub keptContext : ℕ → ℕ
@@ -128,7 +132,7 @@ keptContext x = only x 4 60
 
 -- Status keeps CU0, BEV, IM, KSU, ERL, EXL and IE (T20)
 abbrev pub keptStatus : ℕ → ℕ
-keptStatus x = only x 28 1 + only x 22 1 + only x 8 8 + only x 0 5
+keptStatus x = only x 28 1 + only x 22 1 + only x 8 8 + x % 2 ^ 5
 
 -- Cause keeps BD, CE, IP7, IP1..0 and ExcCode; IP6..2 are the lines and not stored (T18)
 abbrev pub keptCause : ℕ → ℕ

@@ -1,8 +1,13 @@
 // CP0: the kept registers, moves to and from them, the mode, exceptions, and the end of a step.
+mod exceptions;
 mod registers;
 mod status;
 mod tick;
-use tlb::VAddr;
+
+pub use exceptions::entered;
+pub use exceptions::return_to;
+pub use exceptions::returned;
+pub use exceptions::vector;
 pub use registers::fresh_cp0;
 pub use registers::linked;
 pub use registers::probed;
@@ -12,6 +17,7 @@ pub use status::interrupted;
 pub use status::mode_of;
 pub use status::user;
 pub use tick::ended;
+use tlb::VAddr;
 
 // The registers that are kept, 0 to 6, 8 to 17 and 28 to 30, by their manual names.
 pub struct Cp0 {

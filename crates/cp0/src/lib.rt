@@ -1,5 +1,6 @@
 // CP0: the kept registers, moves to and from them, the mode, exceptions, and the end of a step.
 mod exceptions;
+mod moves;
 mod registers;
 mod status;
 mod tick;
@@ -8,6 +9,8 @@ pub use exceptions::entered;
 pub use exceptions::return_to;
 pub use exceptions::returned;
 pub use exceptions::vector;
+pub use moves::move_in;
+pub use moves::move_out;
 pub use registers::fresh_cp0;
 pub use registers::linked;
 pub use registers::probed;

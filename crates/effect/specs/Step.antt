@@ -39,6 +39,10 @@ use Rattle.decode.specs.Decode.{decode}
 use Rattle.decode.specs.Ready.{ready}
 use Rattle.execute.specs.declared.Act.{Act}
 use Rattle.execute.specs.declared.Act.the-variants as act
+use Rattle.execute.specs.declared.Command.{Command}
+use Rattle.execute.specs.declared.Command.the-variants as command
+use Rattle.execute.specs.declared.Executed.{Executed}
+use Rattle.execute.specs.declared.Executed.the-variants as done
 use Rattle.execute.specs.Address.{afterSlot}
 use Rattle.execute.specs.LoadStore.{loadAlign, storeAlign}
 use Rattle.execute.specs.Execute.{execute}
@@ -83,24 +87,32 @@ abbrev pub movedFrom : Bool → ℕ → ℕ
 movedFrom double x = pick double x (extend x)
 
 -- what an instruction asks for is done; `value` is that of its register rt
-unfoldable pub asked : Cpu → Cp0 → List ℕ → (PAddr → Eight) → ℕ → ℕ → Act → Effect
-asked cpu cp0 tlb look lines value act.Nothing = turned turn.Next
-asked cpu cp0 tlb look lines value (act.Write reg v) = wrote reg v
-asked cpu cp0 tlb look lines value (act.HiLo hi lo) = turned (turn.HiLo hi lo)
-asked cpu cp0 tlb look lines value (act.Branch to link) = effects (turn.Branch to) link (afterSlot (cpu .pc)) Keep Nowhere 0
-asked cpu cp0 tlb look lines value (act.Skip link) = effects turn.Skip link (afterSlot (cpu .pc)) Keep Nowhere 0
-asked cpu cp0 tlb look lines value (act.Load op reg at) = loaded op reg value at look (leads cp0 tlb (loadAlign op) at)
-asked cpu cp0 tlb look lines value (act.Store op reg at) = saved op reg (cpu .link) value at look (leads cp0 tlb (storeAlign op) at)
-asked cpu cp0 tlb look lines value (act.Raise e) = raised e
-asked cpu cp0 tlb look lines value (act.MoveFrom reg number double) = wrote reg (movedFrom double (moveOut cp0 lines number))
-asked cpu cp0 tlb look lines value (act.MoveTo number v) = movedTo number v (checkMove number v)
-asked cpu cp0 tlb look lines value (act.Tlb op) = tlbDone op cp0 tlb
-asked cpu cp0 tlb look lines value act.Eret = turned turn.Eret
+unfoldable pub asked : Cpu → Cp0 → List ℕ → (PAddr → Eight) → ℕ → Act → Effect
+asked cpu cp0 tlb look value act.Nothing = turned turn.Next
+asked cpu cp0 tlb look value (act.Write reg v) = wrote reg v
+asked cpu cp0 tlb look value (act.HiLo hi lo) = turned (turn.HiLo hi lo)
+asked cpu cp0 tlb look value (act.Branch to link) = effects (turn.Branch to) link (afterSlot (cpu .pc)) Keep Nowhere 0
+asked cpu cp0 tlb look value (act.Skip link) = effects turn.Skip link (afterSlot (cpu .pc)) Keep Nowhere 0
+asked cpu cp0 tlb look value (act.Load op reg at) = loaded op reg value at look (leads cp0 tlb (loadAlign op) at)
+asked cpu cp0 tlb look value (act.Store op reg at) = saved op reg (cpu .link) value at look (leads cp0 tlb (storeAlign op) at)
+asked cpu cp0 tlb look value (act.Raise e) = raised e
+
+-- what a CP0 instruction asks for is done
+unfoldable pub commanded : Cp0 → List ℕ → ℕ → Command → Effect
+commanded cp0 tlb lines (command.MoveFrom reg number double) = wrote reg (movedFrom double (moveOut cp0 lines number))
+commanded cp0 tlb lines (command.MoveTo number v) = movedTo number v (checkMove number v)
+commanded cp0 tlb lines (command.Tlb op) = tlbDone op cp0 tlb
+commanded cp0 tlb lines command.Eret = turned turn.Eret
+
+-- what an instruction does or asks for
+unfoldable pub executed : Cpu → Cp0 → List ℕ → (PAddr → Eight) → ℕ → ℕ → Executed → Effect
+executed cpu cp0 tlb look lines value (done.Plain a) = asked cpu cp0 tlb look value a
+executed cpu cp0 tlb look lines value (done.Command c) = commanded cp0 tlb lines c
 
 -- a word that may be executed, or what it raises or stops instead (S6)
 unfoldable pub readied : Cpu → Cp0 → List ℕ → List ℕ → (PAddr → Eight) → ℕ → ℕ → Ready → Effect
 readied cpu cp0 regs tlb look lines w (Go i) =
-    asked cpu cp0 tlb look lines (getD regs (rt w) 0)
+    executed cpu cp0 tlb look lines (getD regs (rt w) 0)
     (execute i (cpu .pc) (getD regs (rs w) 0) (getD regs (rt w) 0) (cpu .hi) (cpu .lo))
 readied cpu cp0 regs tlb look lines w (Unusable u) = raised (CpU u)
 readied cpu cp0 regs tlb look lines w Reserved = raised RI

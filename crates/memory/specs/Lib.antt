@@ -4,3 +4,5 @@ pub mod Memory
 pub mod Loads
 pub mod Unaligned
 pub mod Stores
+pub mod MemoryLaws
+pub mod StoreLaws

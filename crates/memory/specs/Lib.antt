@@ -1,5 +1,6 @@
 -- The rulebook's memory: reading it, loads, unaligned loads, stores, and the laws of each.
 pub mod Bytes
+pub mod BytesLaws
 pub mod Memory
 pub mod Loads
 pub mod Unaligned

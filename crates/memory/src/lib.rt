@@ -6,6 +6,7 @@ ghost use Rattle.memory.specs.Bytes as B;
 ghost use Rattle.memory.specs.Memory as M;
 
 mod stores;
+mod unaligned;
 
 pub use stores::put_bytes;
 pub use stores::sb;

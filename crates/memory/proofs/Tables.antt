@@ -95,7 +95,7 @@ pub swl-table :
     ∷ 0x494a4b4c4d4e4546
     ∷ 0x494a4b4c4d4e4f45
     ∷ []
-unfolding swl byte bytesOf eightOf putBytes
+unfolding byte bytesOf eightOf putBytes
 swl-table = refl
 
 pub swr-table :
@@ -109,7 +109,7 @@ pub swr-table :
     ∷ 0x494a4b4c46474850
     ∷ 0x494a4b4c45464748
     ∷ []
-unfolding swr byte bytesOf eightOf putBytes
+unfolding byte bytesOf eightOf putBytes
 swr-table = refl
 
 pub sdl-table :
@@ -123,7 +123,7 @@ pub sdl-table :
     ∷ 0x494a4b4c4d4e4142
     ∷ 0x494a4b4c4d4e4f41
     ∷ []
-unfolding sdl byte bytesOf eightOf putBytes
+unfolding byte bytesOf eightOf putBytes
 sdl-table = refl
 
 pub sdr-table :
@@ -137,5 +137,5 @@ pub sdr-table :
     ∷ 0x4243444546474850
     ∷ 0x4142434445464748
     ∷ []
-unfolding sdr byte bytesOf eightOf putBytes
+unfolding byte bytesOf eightOf putBytes
 sdr-table = refl

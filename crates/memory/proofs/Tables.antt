@@ -6,7 +6,8 @@ use mathlib.Core.List.{List, [], _∷_, map}
 use Rattle.memory.specs.declared.PAddr.{PAddr}
 use Rattle.memory.specs.declared.Store.{Store}
 use Rattle.memory.specs.Bytes.{byte, bytesOf, eightOf, withBytes}
-use Rattle.memory.specs.Loads.{extend, span}
+use Rattle.memory.specs.Loads.{span}
+use Rattle.word.specs.Extend.{extend}
 use Rattle.memory.specs.Unaligned.{lwl, lwr, ldl, ldr}
 use Rattle.memory.specs.Stores.{putBytes, swl, swr, sdl, sdr}
 
@@ -95,7 +96,7 @@ pub swl-table :
     ∷ 0x494a4b4c4d4e4546
     ∷ 0x494a4b4c4d4e4f45
     ∷ []
-unfolding swl byte bytesOf eightOf putBytes
+unfolding byte bytesOf eightOf putBytes
 swl-table = refl
 
 pub swr-table :
@@ -109,7 +110,7 @@ pub swr-table :
     ∷ 0x494a4b4c46474850
     ∷ 0x494a4b4c45464748
     ∷ []
-unfolding swr byte bytesOf eightOf putBytes
+unfolding byte bytesOf eightOf putBytes
 swr-table = refl
 
 pub sdl-table :
@@ -123,7 +124,7 @@ pub sdl-table :
     ∷ 0x494a4b4c4d4e4142
     ∷ 0x494a4b4c4d4e4f41
     ∷ []
-unfolding sdl byte bytesOf eightOf putBytes
+unfolding byte bytesOf eightOf putBytes
 sdl-table = refl
 
 pub sdr-table :
@@ -137,5 +138,5 @@ pub sdr-table :
     ∷ 0x4243444546474850
     ∷ 0x4142434445464748
     ∷ []
-unfolding sdr byte bytesOf eightOf putBytes
+unfolding byte bytesOf eightOf putBytes
 sdr-table = refl

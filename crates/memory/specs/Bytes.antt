@@ -13,8 +13,8 @@ bytesOf zero x = []
 bytesOf (suc n) x = byte x n ∷ bytesOf n x
 
 -- the number that eight bytes are, the first on top (C3)
-unfoldable pub eightOf : List ℕ → ℕ
-eightOf l =
+abbrev pub eightSum : List ℕ → ℕ
+eightSum l =
     getD l 0 0 * 2 ^ 56
     + getD l 1 0 * 2 ^ 48
     + getD l 2 0 * 2 ^ 40
@@ -23,6 +23,9 @@ eightOf l =
     + getD l 5 0 * 2 ^ 16
     + getD l 6 0 * 2 ^ 8
     + getD l 7 0
+
+unfoldable pub eightOf : List ℕ → ℕ
+eightOf l = eightSum l
 
 -- x with `count` of its bytes, those above the `low` lowest, replaced by the low `count` bytes of y
 unfoldable pub withBytes : ℕ → ℕ → ℕ → ℕ → ℕ

@@ -14,16 +14,16 @@ use Rattle.memory.specs.Bytes.{bytesOf}
 use Rattle.memory.specs.Memory.{inRam}
 
 -- SB, SH, SW and SD: the low bytes of the register, from p on (C4)
-unfoldable pub sb : PAddr → ℕ → Store
+abbrev pub sb : PAddr → ℕ → Store
 sb p value = Write p 1 value
 
-unfoldable pub sh : PAddr → ℕ → Store
+abbrev pub sh : PAddr → ℕ → Store
 sh p value = Write p 2 value
 
-unfoldable pub sw : PAddr → ℕ → Store
+abbrev pub sw : PAddr → ℕ → Store
 sw p value = Write p 4 value
 
-unfoldable pub sd : PAddr → ℕ → Store
+abbrev pub sd : PAddr → ℕ → Store
 sd p value = Write p 8 value
 
 -- left: the top of the register's low `size` bytes, from p to the end of the aligned `size` (C4)
@@ -34,16 +34,16 @@ storeLeft size p value = Write p (size - p .0 % size) (value / 2 ^ (8 * (p .0 % 
 abbrev pub storeRight : ℕ → PAddr → ℕ → Store
 storeRight size p value = Write (record { 0 = p .0 / size * size }) (p .0 % size + 1) value
 
-unfoldable pub swl : PAddr → ℕ → Store
+abbrev pub swl : PAddr → ℕ → Store
 swl p value = storeLeft 4 p value
 
-unfoldable pub swr : PAddr → ℕ → Store
+abbrev pub swr : PAddr → ℕ → Store
 swr p value = storeRight 4 p value
 
-unfoldable pub sdl : PAddr → ℕ → Store
+abbrev pub sdl : PAddr → ℕ → Store
 sdl p value = storeLeft 8 p value
 
-unfoldable pub sdr : PAddr → ℕ → Store
+abbrev pub sdr : PAddr → ℕ → Store
 sdr p value = storeRight 8 p value
 
 -- a store lands where RAM has the place, and at least one byte, all within the eight aligned ones, goes out

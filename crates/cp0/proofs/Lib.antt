@@ -1,0 +1,4 @@
+-- What the proofs share.
+pub mod Fits
+pub mod Fields
+pub mod Kept

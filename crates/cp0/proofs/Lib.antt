@@ -2,3 +2,4 @@
 pub mod Fits
 pub mod Fields
 pub mod Kept
+pub mod InRange

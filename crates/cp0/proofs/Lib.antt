@@ -3,3 +3,6 @@ pub mod Fits
 pub mod Fields
 pub mod Kept
 pub mod InRange
+pub mod StatusRange
+pub mod KeepsRange
+pub mod KeepsRandom

@@ -2,6 +2,7 @@
 ghost use mathlib.Core.Path.{_≡_};
 ghost use Rattle.cp0.specs.Moves as M;
 use crate::Cp0;
+use crate::Move;
 use crate::registers::kept_entryhi;
 use crate::registers::kept_entrylo;
 use crate::registers::kept_index;
@@ -144,4 +145,47 @@ pub fn move_in(cp0: Cp0, number: usize, value: u64) -> Cp0
         }
         _ => move_word(cp0, number, low(value)),
     }
+}
+
+// Whether a Status value is built.
+pub fn built_status(w: u32) -> bool
+    ensures { λ r. ⌜ r ≡ M.builtStatus w ⌝ }
+{
+    if w / 0x2000_0000 % 8 != 0 {
+        return false;
+    }
+    if w / 0x200_0000 % 2 != 0 {
+        return false;
+    }
+    if w / 32 % 8 != 0 {
+        return false;
+    }
+    let ksu = w / 8 % 4;
+    if ksu == 1 {
+        return false;
+    }
+    if ksu == 3 {
+        return false;
+    }
+    true
+}
+
+// Whether a move's value is built, by its low word.
+pub fn check_move(number: usize, value: u64) -> Move
+    ensures { λ r. ⌜ r ≡ M.checkMove number value ⌝ }
+{
+    let w = low(value);
+    if number == 12 {
+        if built_status(w) {
+            return Move::Built;
+        }
+        return Move::NotBuilt;
+    }
+    if number == 5 {
+        if tlb::legal_mask(wide(w)) {
+            return Move::Built;
+        }
+        return Move::NotBuilt;
+    }
+    Move::Built
 }

@@ -6,3 +6,4 @@ pub mod InRange
 pub mod StatusRange
 pub mod KeepsRange
 pub mod KeepsRandom
+pub mod KeepsMoves

@@ -7,3 +7,5 @@ pub mod StatusRange
 pub mod KeepsRange
 pub mod KeepsRandom
 pub mod KeepsMoves
+pub mod KeepsSlots
+pub mod Modes

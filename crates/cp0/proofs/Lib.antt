@@ -6,3 +6,6 @@ pub mod InRange
 pub mod StatusRange
 pub mod KeepsRange
 pub mod KeepsRandom
+pub mod KeepsMoves
+pub mod KeepsSlots
+pub mod Modes

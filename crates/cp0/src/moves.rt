@@ -12,19 +12,9 @@ use crate::registers::low;
 use crate::registers::wide;
 use crate::status::cause_read;
 
-// A word, sign-extended.
-fn extended(x: u32) -> u64
-    ensures { λ r. ⌜ r ≡ M.extended x ⌝ }
-{
-    if x < 0x8000_0000 {
-        return wide(x);
-    }
-    wide(x) + 0xffff_ffff_0000_0000
-}
-
 // A 32-bit register by its number; one that is not kept reads 0.
-fn word(cp0: Cp0, lines: u8, number: usize) -> u32
-    ensures { λ r. ⌜ r ≡ M.word cp0 lines number ⌝ }
+fn word_of(cp0: Cp0, lines: u8, number: usize) -> u32
+    ensures { λ r. ⌜ r ≡ M.wordOf cp0 lines number ⌝ }
 {
     match number {
         0 => cp0.index,
@@ -56,7 +46,7 @@ pub fn move_out(cp0: Cp0, lines: u8, number: usize) -> u64
         8 => cp0.badvaddr,
         14 => cp0.epc,
         30 => cp0.errorepc,
-        _ => extended(word(cp0, lines, number)),
+        _ => word::extend(wide(word_of(cp0, lines, number))),
     }
 }
 

@@ -1,23 +1,22 @@
 -- Where a mapped address leads depends on its 4 KiB page alone: addresses of one page go through the same half to one physical page.
-use Prim.Native.Nat.{ℕ, zero, suc, _+_, _*_, _/_, _%_, _^_, _<_}
-use mathlib.Core.Path.{_≡_, refl, sym, ap, ap₂, subst, _∙_}
+use Prim.Native.Nat.{ℕ, zero, suc, _+_, _*_, _/_, _%_, _^_}
+use mathlib.Core.Path.{_≡_, refl, sym, ap, ap₂, _∙_}
 use mathlib.Core.Bool.{Bool, true, false}
 use mathlib.Core.List.{List}
-use native.Mathlib.Nat.{add-comm, div-div-eq-div-mul}
+use native.Mathlib.Nat.{add-comm}
 use native.Mathlib.Omega.{arith}
 use lib.Pow.{mod-pow-add, pow-add, shr-shr}
 use Rattle.memory.specs.declared.PAddr.{PAddr}
 use Rattle.tlb.specs.declared.VAddr.{VAddr}
-use Rattle.tlb.specs.declared.Slot.{Slot}
 use Rattle.tlb.specs.declared.Half.{Half}
 use Rattle.tlb.specs.declared.Found.{Found}
 use Rattle.tlb.specs.declared.Found.the-variants.{Absent, One, Many}
 use Rattle.tlb.specs.declared.Where.{Where}
 use Rattle.tlb.specs.declared.Where.the-variants.{Mapped, Unmapped, Invalid, Refill, Double, AddressError}
-use Rattle.tlb.specs.PageMask.{trailingOnes, run, pageBits, pageBytes}
+use Rattle.tlb.specs.PageMask.{trailingOnes, run, pageBits}
 use Rattle.tlb.specs.Slot.{slotAt, frame, validOf}
 use Rattle.tlb.specs.Match.{hits, matchesAt, more, seek, lookup}
-use Rattle.tlb.specs.Translate.{vaddr, paddr, physical, oddOf, loOf, halfOf, through, throughSlot, throughFound, mapped}
+use Rattle.tlb.specs.Translate.{vaddr, paddr, physical, oddOf, loOf, through, throughSlot, throughFound, mapped}
 
 -- two addresses lie in one 4 KiB page
 abbrev pub SamePage : VAddr → VAddr → Type 0

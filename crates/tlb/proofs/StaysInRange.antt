@@ -1,17 +1,16 @@
 -- What is stored is in range where its mask is legal, so a write keeps the TLB in range.
 use Prim.Native.Nat.{ℕ, zero, suc, _+_, _-_, _*_, _/_, _%_, _^_, _<_, _≤_}
-use mathlib.Core.Path.{_≡_, refl, sym, ap, ap₂, subst, _∙_}
+use mathlib.Core.Path.{_≡_, refl, ap, _∙_}
 use mathlib.Core.Bool.{Bool, true, false}
 use mathlib.Core.List.{List}
 use mathlib.Core.Logic.{_⊎_, inl, inr}
-use native.Mathlib.Decide.{ℕ-discrete, decLt}
+use native.Mathlib.Decide.{ℕ-discrete}
 use native.Mathlib.Nat.{pow-suc}
 use native.Mathlib.Omega.{arith}
-use lib.Bits.{bitAnd, and-zero-r, and-shr, and-mod, and-le-l}
-use lib.Dec.{ltb, eqb}
+use lib.Bits.{bitAnd, and-zero-r, and-shr, and-mod}
+use lib.Dec.{eqb}
 use lib.ListN.{length}
-use lib.Pow.{pow-pos}
-use borrow.Author.Tests.{lt-ltb, le-ltb, eq-eqb}
+use borrow.Author.Tests.{lt-ltb}
 use Rattle.promise.specs.Pick.{pick, both}
 use Rattle.tlb.specs.declared.Slot.{Slot}
 use Rattle.tlb.specs.declared.SlotWrite.{SlotWrite}

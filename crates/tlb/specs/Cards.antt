@@ -5,7 +5,6 @@ use mathlib.Core.Bool.{true, false}
 use mathlib.Core.List.{List}
 use lib.Count.{ones, onesIn, trailingZeros}
 use lib.ListN.{replicate}
-use Rattle.tlb.specs.declared.Where.{Where}
 use Rattle.tlb.specs.declared.Where.the-variants.{Mapped, Invalid}
 use Rattle.tlb.specs.PageMask.{legalMask, trailingOnes, pageBits}
 use Rattle.tlb.specs.Slot.{slot, slotAt, stored, setSlot, cleared, bothGlobal}

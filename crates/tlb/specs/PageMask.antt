@@ -1,5 +1,5 @@
 -- PageMask: which values are built, and the size of the pages that they give.
-use Prim.Native.Nat.{ℕ, _+_, _-_, _*_, _/_, _%_, _^_}
+use Prim.Native.Nat.{ℕ, _+_, _-_, _*_, _%_, _^_}
 use mathlib.Core.Bool.{Bool}
 use lib.Count.{ones, trailingZeros}
 use lib.Dec.{eqb}

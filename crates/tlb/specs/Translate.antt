@@ -1,9 +1,8 @@
 -- Where a mapped address leads: through the half of the one slot that matches it.
-use Prim.Native.Nat.{ℕ, _+_, _-_, _*_, _/_, _%_, _^_}
-use mathlib.Core.Bool.{Bool}
+use Prim.Native.Nat.{ℕ, _+_, _*_, _/_, _%_, _^_}
 use mathlib.Core.List.{List}
 use lib.Dec.{eqb}
-use Rattle.promise.specs.Bits.{bit, bits, set?}
+use Rattle.promise.specs.Bits.{bit}
 use Rattle.promise.specs.Pick.{pick}
 use Rattle.memory.specs.declared.PAddr.{PAddr}
 use Rattle.tlb.specs.declared.VAddr.{VAddr}

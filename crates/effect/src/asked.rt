@@ -1,9 +1,7 @@
-// One step in order: interrupt, fetch, decode, execute, and what the instruction asks for.
+// What an instruction asks for, done: accesses, CP0 moves, TLB operations.
 ghost use mathlib.Core.Path.{_≡_};
 ghost use Rattle.memory.specs.Memory.{read};
-ghost use Rattle.cp0.specs.Status.{CU0};
 ghost use Rattle.execute.specs.Address.{afterSlot};
-ghost use Rattle.memory.specs.Loads.{lwu};
 ghost use Rattle.effect.specs.Step as Rule;
 use crate::Cpu;
 use crate::Effect;
@@ -16,15 +14,11 @@ use crate::build::stopped;
 use crate::build::turned;
 use crate::build::wrote;
 use cp0::Cp0;
-use cp0::Exception;
 use cp0::Move;
-use decode::Ready;
 use decode::TlbOp;
 use execute::Act;
 use execute::Command;
 use execute::Executed;
-use memory::Eight;
-use memory::PAddr;
 use memory::Store;
 use tlb::Probe;
 use tlb::Slot;
@@ -40,7 +34,7 @@ fn wide(x: u32) -> u64
 }
 
 // Where an address leads, by the mode and the ASID that CP0 holds.
-fn leads(cp0: Cp0, tlb: &[u64; 192], align: u64, v: VAddr) -> Where
+pub fn leads(cp0: Cp0, tlb: &[u64; 192], align: u64, v: VAddr) -> Where
     ensures { λ r. ⌜ r ≡ Rule.leads cp0 (now (tlb .entry)) align v ⌝ }
 {
     tlb::translate(cp0::mode_of(cp0.status), cp0.entryhi % 256, tlb, align, v)
@@ -219,177 +213,4 @@ pub fn executed<'a>(
         Executed::Plain(a) => asked(cpu, cp0, tlb, ram, rom, value, a),
         Executed::Command(c) => commanded(cp0, tlb, lines, c),
     }
-}
-
-// A word that may be executed, or what it raises or stops instead.
-fn readied<'a>(
-    cpu: Cpu,
-    cp0: Cp0,
-    regs: &[u64; 32],
-    tlb: &[u64; 192],
-    ram: &'a [u8],
-    rom: &'a [u8],
-    lines: u8,
-    w: u32,
-    x: Ready,
-) -> Effect
-    ensures { λ r. ⌜ r ≡ Rule.readied cpu cp0 (now (regs .entry)) (now (tlb .entry)) (read (now (ram .entry)) (now (rom .entry))) lines w x ⌝ }
-{
-    match x {
-        Ready::Go(i) => {
-            let s = decode::rs(w);
-            let t = decode::rt(w);
-            let a = regs[s];
-            let b = regs[t];
-            executed(
-                cpu,
-                cp0,
-                tlb,
-                ram,
-                rom,
-                lines,
-                b,
-                execute::execute(i, cpu.pc, a, b, cpu.hi, cpu.lo),
-            )
-        }
-        Ready::Unusable(u) => raised(Exception::CpU(u)),
-        Ready::Reserved => raised(Exception::RI),
-        Ready::InSlot => stopped(17),
-    }
-}
-
-// CU0 of Status.
-fn cu0(status: u32) -> bool
-    ensures { λ r. ⌜ r ≡ CU0 status ⌝ }
-{
-    status / 268435456 % 2 == 1
-}
-
-// A fetched word is decoded.
-fn decoded<'a>(
-    cpu: Cpu,
-    cp0: Cp0,
-    regs: &[u64; 32],
-    tlb: &[u64; 192],
-    ram: &'a [u8],
-    rom: &'a [u8],
-    lines: u8,
-    w: u32,
-) -> Effect
-    ensures { λ r. ⌜ r ≡ Rule.decoded cpu cp0 (now (regs .entry)) (now (tlb .entry)) (read (now (ram .entry)) (now (rom .entry))) lines w ⌝ }
-{
-    let x = decode::ready(
-        cp0::user(cp0.status),
-        cu0(cp0.status),
-        cpu.slot,
-        decode::decode(w),
-    );
-    readied(cpu, cp0, regs, tlb, ram, rom, lines, w, x)
-}
-
-// The word of the eight bytes that an address names.
-fn fetched_word(n: u64, p: PAddr) -> u32
-    ensures { λ r. ⌜ r ≡ lwu n p ⌝ }
-{
-    (memory::lwu(n, p) % 4294967296) as u32
-}
-
-// The eight bytes that the fetch found, or a bus error.
-fn begun<'a>(
-    cpu: Cpu,
-    cp0: Cp0,
-    regs: &[u64; 32],
-    tlb: &[u64; 192],
-    ram: &'a [u8],
-    rom: &'a [u8],
-    lines: u8,
-    p: PAddr,
-    x: Eight,
-) -> Effect
-    ensures { λ r. ⌜ r ≡ Rule.begun cpu cp0 (now (regs .entry)) (now (tlb .entry)) (read (now (ram .entry)) (now (rom .entry))) lines p x ⌝ }
-{
-    match x {
-        Eight::Ram(n) => decoded(cpu, cp0, regs, tlb, ram, rom, lines, fetched_word(n, p)),
-        Eight::Rom(n) => decoded(cpu, cp0, regs, tlb, ram, rom, lines, fetched_word(n, p)),
-        Eight::Missing => raised(Exception::IBE),
-    }
-}
-
-// The fetch, once PC is translated.
-fn fetched<'a>(
-    cpu: Cpu,
-    cp0: Cp0,
-    regs: &[u64; 32],
-    tlb: &[u64; 192],
-    ram: &'a [u8],
-    rom: &'a [u8],
-    lines: u8,
-    x: Where,
-) -> Effect
-    ensures { λ r. ⌜ r ≡ Rule.fetched cpu cp0 (now (regs .entry)) (now (tlb .entry)) (read (now (ram .entry)) (now (rom .entry))) lines x ⌝ }
-{
-    match x {
-        Where::Mapped(p, _) => begun(
-            cpu,
-            cp0,
-            regs,
-            tlb,
-            ram,
-            rom,
-            lines,
-            p,
-            memory::read(ram, rom, p),
-        ),
-        Where::Unmapped(p) => begun(
-            cpu,
-            cp0,
-            regs,
-            tlb,
-            ram,
-            rom,
-            lines,
-            p,
-            memory::read(ram, rom, p),
-        ),
-        Where::Invalid(_) => raised(Exception::TLBL {
-            bad: VAddr(cpu.pc),
-            refill: false,
-        }),
-        Where::Refill => raised(Exception::TLBL {
-            bad: VAddr(cpu.pc),
-            refill: true,
-        }),
-        Where::Double => stopped(16),
-        Where::AddressError => raised(Exception::AdEL(VAddr(cpu.pc))),
-    }
-}
-
-// What a step comes to: stop 19 first of all, then the interrupt, then the fetch.
-pub fn effect_of<'a>(
-    cpu: Cpu,
-    cp0: Cp0,
-    regs: &[u64; 32],
-    tlb: &[u64; 192],
-    ram: &'a [u8],
-    rom: &'a [u8],
-    lines: u8,
-) -> Effect
-    ensures { λ r. ⌜ r ≡ Rule.effectOf cpu cp0 (now (regs .entry)) (now (tlb .entry)) (read (now (ram .entry)) (now (rom .entry))) lines ⌝ }
-{
-    if regs[0] != 0 {
-        return stopped(19);
-    }
-    if cp0::interrupted(cp0.status, cp0.cause, lines) {
-        return raised(Exception::Int);
-    }
-    fetched(
-        cpu,
-        cp0,
-        regs,
-        tlb,
-        ram,
-        rom,
-        lines,
-        leads(cp0, tlb, 4, VAddr(cpu.pc)),
-    )
 }

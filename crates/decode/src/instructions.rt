@@ -188,31 +188,36 @@ fn trap_immediate(n: u8, w: u32) -> Decoded
     })
 }
 
+// A move.
+fn moved(op: MoveOp, rt: usize, rd: usize) -> Decoded
+    ensures { λ r. ⌜ r ≡ Decoded.Is (Instr.Move op rt rd) ⌝ }
+{
+    Decoded::Is(Instr::Move { op, rt, rd })
+}
+
+// A TLB operation.
+fn tlb(op: TlbOp) -> Decoded
+    ensures { λ r. ⌜ r ≡ Decoded.Is (Instr.Tlb op) ⌝ }
+{
+    Decoded::Is(Instr::Tlb(op))
+}
+
+// SYSCALL, BREAK or SYNC.
+fn special(op: SpecialOp) -> Decoded
+    ensures { λ r. ⌜ r ≡ Decoded.Is (Instr.Special op) ⌝ }
+{
+    Decoded::Is(Instr::Special(op))
+}
+
 // A COP0 word with bit 25 clear, by its fields: a move by rs.
 fn moves(rs: usize, rt: usize, rd: usize) -> Decoded
     ensures { λ r. ⌜ r ≡ D.move rs rt rd ⌝ }
 {
     match rs {
-        0 => Decoded::Is(Instr::Move {
-            op: MoveOp::MFC0,
-            rt,
-            rd,
-        }),
-        1 => Decoded::Is(Instr::Move {
-            op: MoveOp::DMFC0,
-            rt,
-            rd,
-        }),
-        4 => Decoded::Is(Instr::Move {
-            op: MoveOp::MTC0,
-            rt,
-            rd,
-        }),
-        5 => Decoded::Is(Instr::Move {
-            op: MoveOp::DMTC0,
-            rt,
-            rd,
-        }),
+        0 => moved(MoveOp::MFC0, rt, rd),
+        1 => moved(MoveOp::DMFC0, rt, rd),
+        4 => moved(MoveOp::MTC0, rt, rd),
+        5 => moved(MoveOp::DMTC0, rt, rd),
         _ => Decoded::ReservedCop0,
     }
 }
@@ -222,10 +227,10 @@ fn operation(funct: usize) -> Decoded
     ensures { λ r. ⌜ r ≡ D.operation funct ⌝ }
 {
     match funct {
-        0x01 => Decoded::Is(Instr::Tlb(TlbOp::TLBR)),
-        0x02 => Decoded::Is(Instr::Tlb(TlbOp::TLBWI)),
-        0x06 => Decoded::Is(Instr::Tlb(TlbOp::TLBWR)),
-        0x08 => Decoded::Is(Instr::Tlb(TlbOp::TLBP)),
+        0x01 => tlb(TlbOp::TLBR),
+        0x02 => tlb(TlbOp::TLBWI),
+        0x06 => tlb(TlbOp::TLBWR),
+        0x08 => tlb(TlbOp::TLBP),
         0x18 => Decoded::Is(Instr::Eret),
         _ => Decoded::ReservedCop0,
     }
@@ -250,9 +255,9 @@ fn other(n: u8, w: u32) -> Decoded
         1 => Decoded::Coprocessor(1),
         2 => Decoded::Coprocessor(2),
         3 => Decoded::Is(Instr::Cache),
-        4 => Decoded::Is(Instr::Special(SpecialOp::SYSCALL)),
-        5 => Decoded::Is(Instr::Special(SpecialOp::BREAK)),
-        6 => Decoded::Is(Instr::Special(SpecialOp::SYNC)),
+        4 => special(SpecialOp::SYSCALL),
+        5 => special(SpecialOp::BREAK),
+        6 => special(SpecialOp::SYNC),
         _ => Decoded::Reserved,
     }
 }

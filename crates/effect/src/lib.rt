@@ -3,12 +3,14 @@ mod access;
 mod after;
 mod asked;
 mod build;
+mod step;
 
 pub use after::cp0_after;
 pub use after::cpu_after;
 use cp0::Exception;
 use memory::PAddr;
 use memory::Store;
+pub use step::effect_of;
 use tlb::Slot;
 use tlb::SlotWrite;
 

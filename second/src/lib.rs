@@ -1,0 +1,22 @@
+//! An independent second emulator of the card, kept only for comparison.
+
+pub mod access;
+pub mod address;
+pub mod answer;
+pub mod branch;
+pub mod cp0;
+pub mod decode;
+pub mod exception;
+pub mod execute;
+pub mod image;
+pub mod machine;
+pub mod memory;
+pub mod output;
+pub mod run;
+pub mod step;
+pub mod system;
+pub mod tlb;
+pub mod word;
+
+#[cfg(test)]
+mod bench;

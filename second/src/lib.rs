@@ -3,19 +3,23 @@
 pub mod access;
 pub mod address;
 pub mod answer;
+pub mod assemble;
 pub mod branch;
 pub mod cp0;
 pub mod decode;
+pub mod draft;
 pub mod exception;
 pub mod execute;
 pub mod image;
 pub mod machine;
+pub mod many;
 pub mod memory;
 pub mod output;
 pub mod run;
 pub mod step;
 pub mod system;
 pub mod tlb;
+pub mod vectors;
 pub mod word;
 
 #[cfg(test)]

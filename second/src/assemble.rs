@@ -123,7 +123,8 @@ pub const ERET: u32 = 0x4200_0018;
 #[cfg(test)]
 mod tests {
     use super::*;
-    use crate::decode::{decode, Alu, Code, Instruction, Load};
+    use crate::decode::decode;
+    use crate::instruction::{Alu, Code, Instruction, Load};
 
     #[test]
     fn words_known_by_heart() {

@@ -1,7 +1,7 @@
 //! Conditions, branches and jumps.
 
-use crate::decode::{Code, Test};
 use crate::execute::Flow;
+use crate::instruction::{Code, Test};
 use crate::machine::Machine;
 
 /// The register that AND-LINK instructions write.
@@ -104,10 +104,7 @@ mod tests {
         machine.pc = 0xffff_ffff_8000_0000;
         machine.gpr[31] = 1;
         let code = Code(31 << 21 | 3);
-        assert_eq!(
-            branch(&mut machine, code, Test::LessZero, true, true),
-            Flow::SkipSlot
-        );
+        assert_eq!(branch(&mut machine, code, Test::LessZero, true, true), Flow::SkipSlot);
         assert_eq!(machine.gpr[31], 0xffff_ffff_8000_0008);
         machine.gpr[31] = 0x40;
         let code = Code(31 << 21 | 31 << 11);

@@ -115,11 +115,8 @@ pub fn take(machine: &mut Machine, exception: Exception) {
         }
         _ => {}
     }
-    let base: u64 = if cp0.status & STATUS_BEV != 0 {
-        0xffff_ffff_bfc0_0200
-    } else {
-        0xffff_ffff_8000_0000
-    };
+    let base: u64 =
+        if cp0.status & STATUS_BEV != 0 { 0xffff_ffff_bfc0_0200 } else { 0xffff_ffff_8000_0000 };
     let offset = if exception.is_refill() && !nested { 0 } else { 0x180 };
     cp0.status |= STATUS_EXL;
     machine.pc = base + offset;

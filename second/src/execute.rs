@@ -3,8 +3,8 @@
 use crate::access;
 use crate::branch::{self, holds};
 use crate::cp0::move_is_not_built;
-use crate::decode::{Alu, Code, Instruction, MulDiv, Shift};
 use crate::exception::{Exception, Stop, Trouble};
+use crate::instruction::{Alu, Code, Instruction, MulDiv, Shift};
 use crate::machine::Machine;
 use crate::memory::Memory;
 use crate::system;

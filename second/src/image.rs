@@ -77,8 +77,8 @@ fn frame(line: &[u8]) -> Option<Frame> {
         b"03" => fields(line, [2, 8]).map(|[_, steps]| Frame::Budget { steps: steps as u32 }),
         b"04" => fields(line, [2, 2, 16])
             .map(|[_, number, value]| Frame::Cp0 { number: number as u32, value }),
-        b"05" => fields(line, [2, 2, 8, 8, 8, 8]).map(|[_, place, mask, hi, lo0, lo1]| {
-            Frame::Slot {
+        b"05" => {
+            fields(line, [2, 2, 8, 8, 8, 8]).map(|[_, place, mask, hi, lo0, lo1]| Frame::Slot {
                 place: place as u32,
                 values: SlotValues {
                     page_mask: mask as u32,
@@ -86,8 +86,8 @@ fn frame(line: &[u8]) -> Option<Frame> {
                     entry_lo0: lo0 as u32,
                     entry_lo1: lo1 as u32,
                 },
-            }
-        }),
+            })
+        }
         _ => None,
     }
 }
@@ -177,11 +177,27 @@ mod tests {
     #[test]
     fn lines_that_are_no_frames() {
         for text in [
-            "\n", "0300000002", "0300000002\r\n", " 0300000002\n", "0300000002 \n", "03\n",
-            "030000002\n", "03000000002\n", "030000000G\n", "030000000A\n", "0000000002\n",
-            "0f0000000002\n", "0a0000000002\n", "0\n", "0122ffffffff8000000\n",
-            "0122ffffffff800000000\n", "04010000000g\n", "0300000002\0\n", "\u{e9}300000002\n",
-            "0600000002\n", "# 0300000002\n",
+            "\n",
+            "0300000002",
+            "0300000002\r\n",
+            " 0300000002\n",
+            "0300000002 \n",
+            "03\n",
+            "030000002\n",
+            "03000000002\n",
+            "030000000G\n",
+            "030000000A\n",
+            "0000000002\n",
+            "0f0000000002\n",
+            "0a0000000002\n",
+            "0\n",
+            "0122ffffffff8000000\n",
+            "0122ffffffff800000000\n",
+            "04010000000g\n",
+            "0300000002\0\n",
+            "\u{e9}300000002\n",
+            "0600000002\n",
+            "# 0300000002\n",
         ] {
             assert_eq!(refused(text), (6, 1), "{text:?}");
         }

@@ -106,11 +106,15 @@ mod tests {
 
     #[test]
     fn lengths_are_checked() {
-        for (length, expected) in [(0, false), (8, true), (12, false), (RAM_MOST, true), (RAM_MOST + 8, false)] {
+        for (length, expected) in
+            [(0, false), (8, true), (12, false), (RAM_MOST, true), (RAM_MOST + 8, false)]
+        {
             let mut ram = vec![0; length];
             assert_eq!(Memory { ram: &mut ram, rom: &[] }.ram_is_allowed(), expected);
         }
-        for (length, expected) in [(0, true), (8, true), (4, false), (ROM_MOST, true), (ROM_MOST + 8, false)] {
+        for (length, expected) in
+            [(0, true), (8, true), (4, false), (ROM_MOST, true), (ROM_MOST + 8, false)]
+        {
             let rom = vec![0; length];
             assert_eq!(Memory { ram: &mut [], rom: &rom }.rom_is_allowed(), expected);
         }

@@ -1,9 +1,10 @@
 //! One step of the machine.
 
 use crate::address::{translate, Use, VAddr};
-use crate::decode::{decode, Code};
+use crate::decode::decode;
 use crate::exception::{take, Exception, Stop, Trouble};
 use crate::execute::{check, execute, Flow};
+use crate::instruction::Code;
 use crate::machine::Machine;
 use crate::memory::Memory;
 

@@ -1,9 +1,9 @@
 //! CP0 moves, TLB operations and ERET.
 
 use crate::cp0::{number, STATUS_ERL, STATUS_EXL};
-use crate::decode::Code;
 use crate::exception::{Stop, Trouble};
 use crate::execute::Flow;
+use crate::instruction::Code;
 use crate::machine::Machine;
 use crate::tlb::{search, Found, Slot, SLOTS};
 use crate::word::extend;

@@ -154,7 +154,8 @@ mod tests {
 
     #[test]
     fn seven_masks_are_legal() {
-        let legal: Vec<u32> = (0..1u32 << 13).map(|n| n << 13).filter(|m| mask_is_legal(*m)).collect();
+        let legal: Vec<u32> =
+            (0..1u32 << 13).map(|n| n << 13).filter(|m| mask_is_legal(*m)).collect();
         assert_eq!(legal.len(), 7);
         for mask in legal {
             let ones = mask.count_ones();

@@ -134,10 +134,7 @@ pub fn divide_double(a: u64, b: u64) -> HiLo {
     if divisor == 0 {
         return BY_ZERO;
     }
-    HiLo {
-        hi: dividend.wrapping_rem(divisor) as u64,
-        lo: dividend.wrapping_div(divisor) as u64,
-    }
+    HiLo { hi: dividend.wrapping_rem(divisor) as u64, lo: dividend.wrapping_div(divisor) as u64 }
 }
 
 /// Divides two unsigned doublewords, quotient to LO and remainder to HI.

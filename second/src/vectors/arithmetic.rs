@@ -191,9 +191,7 @@ fn storing_hi_lo(word: u32) -> Vec<u32> {
 fn single_loop(name: &str, words: &[u32], result: u32) -> Image {
     let body: Vec<u32> = words
         .iter()
-        .flat_map(|word| {
-            [copy(3, 20), copy(22, 0), *word, sd(result, 0, 12), addiu(12, 12, 8)]
-        })
+        .flat_map(|word| [copy(3, 20), copy(22, 0), *word, sd(result, 0, 12), addiu(12, 12, 8)])
         .collect();
     double_loop(name, &[0], &EDGES, &body)
 }

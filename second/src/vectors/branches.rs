@@ -109,7 +109,9 @@ fn jumps() -> Vec<Image> {
         images.push(Draft::kernel(name).code(&code).image());
         images.push(Draft::kernel(format!("{name}-pending")).code(&code).budget(1).image());
         let farthest = [jump(opcode, 0x03ff_ffff), NOP, NOP];
-        images.push(Draft::kernel(format!("{name}-to-the-end-of-its-region")).code(&farthest).image());
+        images.push(
+            Draft::kernel(format!("{name}-to-the-end-of-its-region")).code(&farthest).image(),
+        );
         images.push(
             skipping(Draft::kernel(format!("{name}-over-a-region-edge")))
                 .slot(0, [0, 0x0fff_e000, 0, frame(0x2000, 2)])

@@ -7,12 +7,10 @@ use crate::draft::{Draft, CODE_HIGH, RAM_HIGH};
 use crate::many::Image;
 
 /// Values moved to registers that take any.
-const VALUES: [u64; 4] =
-    [0xffff_ffff_ffff_ffff, 0, 0x1234_5678_9abc_def0, 0xfedc_ba98_7654_3210];
+const VALUES: [u64; 4] = [0xffff_ffff_ffff_ffff, 0, 0x1234_5678_9abc_def0, 0xfedc_ba98_7654_3210];
 
 /// Values moved to Status that leave the machine in Kernel mode.
-const STATUSES: [u64; 4] =
-    [0xffff_ffff_1dff_ff17, 0x0040_0004, 0x0000_ff02, 0xabcd_0000_1000_0012];
+const STATUSES: [u64; 4] = [0xffff_ffff_1dff_ff17, 0x0040_0004, 0x0000_ff02, 0xabcd_0000_1000_0012];
 
 /// Values moved to PageMask.
 const MASKS: [u64; 4] = [0x1ff_e000, 0, 0xffff_ffff_0000_6000, 0x7_e000];
@@ -37,10 +35,8 @@ fn both_ways(register: u32, double: bool) -> Image {
             dmfc0(6 + 2 * place, register),
         ]);
     }
-    let mut draft = Draft::kernel(format!(
-        "{}mtc0-register-{register}",
-        if double { "d" } else { "" }
-    ));
+    let mut draft =
+        Draft::kernel(format!("{}mtc0-register-{register}", if double { "d" } else { "" }));
     for (place, value) in values(register).iter().enumerate() {
         draft = draft.reg(1 + place as u32, *value);
     }
@@ -109,11 +105,9 @@ fn returns() -> Vec<Image> {
                 .image(),
         );
     }
-    for (name, target) in [
-        ("unaligned", CODE_HIGH + 1),
-        ("wide", 0x1234_5678_9abc_def0),
-        ("unmapped", 0x0040_0000),
-    ] {
+    for (name, target) in
+        [("unaligned", CODE_HIGH + 1), ("wide", 0x1234_5678_9abc_def0), ("unmapped", 0x0040_0000)]
+    {
         images.push(
             Draft::kernel(format!("eret-to-{name}"))
                 .cp0(number::STATUS, 2)

@@ -1,7 +1,7 @@
 //! The whole decoding maps, a row of eight codes to an image.
 
-use super::common::{user, PATTERN, SKIP_STEPS, USER_CODE, USER_DATA, USER_DATA_AT};
 use super::common::{skipping, USER_CODE_AT};
+use super::common::{user, PATTERN, SKIP_STEPS, USER_CODE, USER_DATA, USER_DATA_AT};
 use crate::assemble::*;
 use crate::cp0::number;
 use crate::draft::{Draft, CODE, CODE_HIGH, RAM_HIGH};
@@ -23,11 +23,8 @@ fn row(name: &str, situation: &str, words: impl Fn(u64) -> Vec<u32>) -> Image {
         (user(name, &code), USER_DATA, USER_CODE_AT)
     };
     assert!(at + 4 * code.len() as u32 <= at + 0x1000);
-    let draft = if situation == "user-cu0" {
-        draft.cp0(number::STATUS, 0x1000_0010)
-    } else {
-        draft
-    };
+    let draft =
+        if situation == "user-cu0" { draft.cp0(number::STATUS, 0x1000_0010) } else { draft };
     draft
         .cp0(number::INDEX, 63)
         .cp0(number::EPC, start + 8)

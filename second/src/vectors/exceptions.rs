@@ -65,11 +65,24 @@ fn cases() -> Vec<(&'static str, How)> {
         ("ov-dsub", How::Word(special(0x2e, 18, 17, 1, 0))),
         ("tr-teq", How::Word(special(0x34, 1, 1, 0, 0))),
         ("tr-tnei", How::Word(regimm(0x0e, 0, 1))),
-        ("fetch-adel-unaligned", How::Fetch { alone: CODE_HIGH + 2, after: 0x8000_0000, branch_at: 0x6ffc }),
-        ("fetch-adel-wide", How::Fetch { alone: 0x1_0000_0000, after: 0x8000_0000, branch_at: 0x6ffc }),
+        (
+            "fetch-adel-unaligned",
+            How::Fetch { alone: CODE_HIGH + 2, after: 0x8000_0000, branch_at: 0x6ffc },
+        ),
+        (
+            "fetch-adel-wide",
+            How::Fetch { alone: 0x1_0000_0000, after: 0x8000_0000, branch_at: 0x6ffc },
+        ),
         ("fetch-refill", How::Fetch { alone: 0x0070_0124, after: 0x0060_2000, branch_at: 0x6ffc }),
         ("fetch-invalid", How::Fetch { alone: 0x0050_1010, after: 0x0050_1000, branch_at: 0x4ffc }),
-        ("fetch-ibe", How::Fetch { alone: 0xffff_ffff_a001_0000, after: RAM_HIGH + 0x1_0000, branch_at: 0xfffc }),
+        (
+            "fetch-ibe",
+            How::Fetch {
+                alone: 0xffff_ffff_a001_0000,
+                after: RAM_HIGH + 0x1_0000,
+                branch_at: 0xfffc,
+            },
+        ),
     ]
 }
 
@@ -113,11 +126,9 @@ fn draft(name: &str, how: &How, exl: bool, bev: bool, slot: bool) -> Image {
             with_pages(name, status).pc(CODE_HIGH).code(&code).image()
         }
         How::Fetch { alone, .. } if !slot => with_pages(name, status).pc(*alone).budget(1).image(),
-        How::Fetch { after, branch_at, .. } => with_pages(name, status)
-            .pc(after - 4)
-            .words(*branch_at, &[branch])
-            .budget(2)
-            .image(),
+        How::Fetch { after, branch_at, .. } => {
+            with_pages(name, status).pc(after - 4).words(*branch_at, &[branch]).budget(2).image()
+        }
         How::Interrupt { mask, lines, software, compare } => {
             let enabled = status | mask | 1;
             let draft = with_pages(name, if slot { status } else { enabled })
@@ -176,8 +187,7 @@ pub fn images() -> Vec<Image> {
     let mut images = Vec::new();
     for (name, how) in cases() {
         for situation in 0..8 {
-            let (exl, bev, slot) =
-                (situation & 1 != 0, situation & 2 != 0, situation & 4 != 0);
+            let (exl, bev, slot) = (situation & 1 != 0, situation & 2 != 0, situation & 4 != 0);
             images.push(draft(name, &how, exl, bev, slot));
         }
     }
@@ -211,10 +221,8 @@ mod tests {
                 continue;
             }
             let short = name.strip_prefix("fetch-").unwrap_or(name);
-            let code = prefixes
-                .iter()
-                .position(|prefix| short.starts_with(prefix))
-                .unwrap_or(2) as u64;
+            let code =
+                prefixes.iter().position(|prefix| short.starts_with(prefix)).unwrap_or(2) as u64;
             for slot in [false, true] {
                 let image = draft(name, &how, false, false, slot);
                 let answer = whole_answer(&image.text, image.lines, &[]);

@@ -37,15 +37,14 @@ pub fn images() -> Vec<Image> {
         ("lld-scd", vec![access(LLD, 1, 8, 10), access(SCD, 2, 8, 10)]),
         ("ll-scd", vec![access(LL, 1, 12, 10), access(SCD, 2, 0, 10)]),
         ("lld-sc", vec![access(LLD, 1, 0, 10), access(SC, 2, 12, 10)]),
-        ("sc-keeps-the-link", vec![
-            access(LL, 1, 0, 10), access(SC, 2, 0, 10), access(SC, 3, 4, 10),
-        ]),
+        (
+            "sc-keeps-the-link",
+            vec![access(LL, 1, 0, 10), access(SC, 2, 0, 10), access(SC, 3, 4, 10)],
+        ),
         ("ll-to-r0", vec![access(LL, 0, 0, 10), access(SC, 2, 0, 10)]),
         ("sc-of-r0", vec![access(LL, 1, 0, 10), access(SC, 0, 4, 10)]),
         ("sc-of-r0-without-link", vec![access(SC, 0, 4, 10)]),
-        ("store-between-ll-and-sc", vec![
-            access(LL, 1, 0, 10), sw(3, 0, 10), access(SC, 2, 0, 10),
-        ]),
+        ("store-between-ll-and-sc", vec![access(LL, 1, 0, 10), sw(3, 0, 10), access(SC, 2, 0, 10)]),
         ("sc-elsewhere", vec![access(LL, 1, 0, 10), access(SC, 2, 0x100, 10)]),
         ("ll-mapped", vec![access(LL, 1, 8, 11), access(SC, 2, 8, 11), dmfc0(4, 17)]),
         ("ll-odd-half", vec![access(LL, 1, 0x7c, 12), mfc0(4, 17)]),
@@ -64,7 +63,10 @@ pub fn images() -> Vec<Image> {
         ("sc-unaligned-without-link", vec![access(SC, 2, 2, 10)]),
         ("scd-unaligned", vec![access(LL, 1, 0, 10), access(SCD, 2, 4, 10)]),
         ("syscall-between-ll-and-sc", vec![access(LL, 1, 0, 10), SYSCALL, access(SC, 2, 0, 10)]),
-        ("ll-then-lladdr-write", vec![access(LL, 1, 0, 10), mtc0(3, 17), dmtc0(3, 17), mfc0(4, 17)]),
+        (
+            "ll-then-lladdr-write",
+            vec![access(LL, 1, 0, 10), mtc0(3, 17), dmtc0(3, 17), mfc0(4, 17)],
+        ),
     ];
     let mut images: Vec<Image> = cases
         .into_iter()

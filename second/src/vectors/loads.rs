@@ -54,7 +54,11 @@ fn load_everywhere(name: &str, opcode: u32) -> Image {
 fn store_everywhere(name: &str, opcode: u32) -> Image {
     let mut code = vec![access(0x30, 2, 0, 10)];
     for offset in 0..8 {
-        code.extend([copy(2, 1), access(opcode, 2, 16 * offset + offset, 10), copy(12 + offset, 2)]);
+        code.extend([
+            copy(2, 1),
+            access(opcode, 2, 16 * offset + offset, 10),
+            copy(12 + offset, 2),
+        ]);
     }
     with_data(format!("{name}-every-offset"))
         .reg(1, 0xf1e2_d3c4_b5a6_9788)
@@ -144,7 +148,9 @@ fn addresses() -> Vec<Image> {
 /// Drafts loads through every Kernel segment and under the error level.
 fn segments() -> Vec<Image> {
     let mut images = Vec::new();
-    for (name, status) in [("normal", 0u64), ("exl", 2), ("erl", 4), ("user-exl", 0x12), ("user-erl", 0x14)] {
+    for (name, status) in
+        [("normal", 0u64), ("exl", 2), ("erl", 4), ("user-exl", 0x12), ("user-erl", 0x14)]
+    {
         for (kind, base) in [
             ("kuseg", 0x0000_4000u64),
             ("kuseg-high", 0x7fff_e000),

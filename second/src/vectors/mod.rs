@@ -64,7 +64,9 @@ mod tests {
         let names: BTreeSet<&str> = images.iter().map(|image| image.name.as_str()).collect();
         assert_eq!(names.len(), images.len());
         for name in names {
-            assert!(name.bytes().all(|b| b.is_ascii_lowercase() || b.is_ascii_digit() || b == b'-'));
+            assert!(name
+                .bytes()
+                .all(|b| b.is_ascii_lowercase() || b.is_ascii_digit() || b == b'-'));
         }
     }
 

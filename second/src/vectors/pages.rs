@@ -145,12 +145,15 @@ fn singles() -> Vec<Image> {
 /// Drafts programs that change a translation and use it at once.
 fn changes() -> Vec<Image> {
     let rewrite = [lw(1, 0, 10), mtc0(20, number::ENTRY_LO0), TLBWI, lw(2, 0, 10), sw(21, 4, 10)];
-    let change_asid = [lw(1, 0, 10), mtc0(20, number::ENTRY_HI), lw(2, 0, 10), mtc0(21, number::ENTRY_HI), lw(3, 0, 10)];
+    let change_asid = [
+        lw(1, 0, 10),
+        mtc0(20, number::ENTRY_HI),
+        lw(2, 0, 10),
+        mtc0(21, number::ENTRY_HI),
+        lw(3, 0, 10),
+    ];
     let base = |name: &str| {
-        skipping(Draft::kernel(name))
-            .data(0x4000, PATTERN)
-            .data(0x5000, OTHER)
-            .reg(10, 0x0040_0000)
+        skipping(Draft::kernel(name)).data(0x4000, PATTERN).data(0x5000, OTHER).reg(10, 0x0040_0000)
     };
     vec![
         base("tlbwi-changes-a-used-translation")

@@ -23,39 +23,51 @@ fn place(rom: &mut [u8], at: usize, words: &[u32]) {
 fn boot() -> Vec<u8> {
     let mut rom = vec![0; BOOT_LENGTH];
     // The start copies two doublewords of ROM to RAM and runs on in RAM, in Kernel mode.
-    place(&mut rom, 0, &[
-        lui(8, 0xbfc0),
-        lui(9, 0x8000),
-        ld(10, 0x100, 8),
-        sd(10, 0x1000, 9),
-        ld(10, 0x108, 8),
-        sd(10, 0x1008, 9),
-        lui(11, 0x0040),
-        mtc0(11, number::STATUS),
-        addiu(12, 9, 0x1000),
-        jr(12),
-        addiu(13, 0, 0x77),
-    ]);
+    place(
+        &mut rom,
+        0,
+        &[
+            lui(8, 0xbfc0),
+            lui(9, 0x8000),
+            ld(10, 0x100, 8),
+            sd(10, 0x1000, 9),
+            ld(10, 0x108, 8),
+            sd(10, 0x1008, 9),
+            lui(11, 0x0040),
+            mtc0(11, number::STATUS),
+            addiu(12, 9, 0x1000),
+            jr(12),
+            addiu(13, 0, 0x77),
+        ],
+    );
     place(&mut rom, 0x100, &[addiu(14, 13, 1), SYSCALL, addiu(15, 14, 1), addiu(16, 15, 1)]);
     // A refill maps the page pair onto itself, low frames, and returns.
-    place(&mut rom, 0x200, &[
-        mfc0(26, number::CONTEXT),
-        addiu(25, 25, 1),
-        ori(27, 0, frame(0x4000, 6)),
-        mtc0(27, number::ENTRY_LO0),
-        ori(27, 0, frame(0x5000, 6)),
-        mtc0(27, number::ENTRY_LO1),
-        TLBWR,
-        ERET,
-    ]);
-    place(&mut rom, 0x380, &[
-        mfc0(26, number::EPC),
-        addiu(26, 26, 4),
-        mtc0(26, number::EPC),
-        mfc0(22, number::CAUSE),
-        addiu(23, 23, 1),
-        ERET,
-    ]);
+    place(
+        &mut rom,
+        0x200,
+        &[
+            mfc0(26, number::CONTEXT),
+            addiu(25, 25, 1),
+            ori(27, 0, frame(0x4000, 6)),
+            mtc0(27, number::ENTRY_LO0),
+            ori(27, 0, frame(0x5000, 6)),
+            mtc0(27, number::ENTRY_LO1),
+            TLBWR,
+            ERET,
+        ],
+    );
+    place(
+        &mut rom,
+        0x380,
+        &[
+            mfc0(26, number::EPC),
+            addiu(26, 26, 4),
+            mtc0(26, number::EPC),
+            mfc0(22, number::CAUSE),
+            addiu(23, 23, 1),
+            ERET,
+        ],
+    );
     rom
 }
 
@@ -100,7 +112,11 @@ pub fn images() -> Vec<Image> {
             .reg(8, 0x0040_0000)
             .code(&[ld(1, 0x100, 8)])
             .image(),
-        at_rom("rom-under-erl").cp0(number::STATUS, 4).reg(8, 0x1fc0_0000).code(&[lw(1, 0, 8)]).image(),
+        at_rom("rom-under-erl")
+            .cp0(number::STATUS, 4)
+            .reg(8, 0x1fc0_0000)
+            .code(&[lw(1, 0, 8)])
+            .image(),
         at_rom("bev-refill-is-served-and-returns")
             .cp0(number::STATUS, bev)
             .data(0x4008, 0x99)
@@ -108,7 +124,11 @@ pub fn images() -> Vec<Image> {
             .code(&[ld(1, 8, 10), sd(1, 0x1000, 10)])
             .budget(2 + 9)
             .image(),
-        at_rom("bev-syscall-returns").cp0(number::STATUS, bev).code(&[SYSCALL, ori(5, 0, 1)]).budget(9).image(),
+        at_rom("bev-syscall-returns")
+            .cp0(number::STATUS, bev)
+            .code(&[SYSCALL, ori(5, 0, 1)])
+            .budget(9)
+            .image(),
         at_rom("bev-nested-refill")
             .cp0(number::STATUS, bev | 2)
             .reg(10, 0x0040_0000)
@@ -147,7 +167,11 @@ mod tests {
     fn the_boot_rom_reaches_ram_and_its_handler() {
         let image = &images()[0];
         let answer = whole_answer(&image.text, 0, &boot());
-        assert!(answer.contains("\n01100000000000000079\n") || answer.contains("\n010f0000000000000079\n"), "{answer}");
+        assert!(
+            answer.contains("\n01100000000000000079\n")
+                || answer.contains("\n010f0000000000000079\n"),
+            "{answer}"
+        );
         assert!(answer.contains("\n01170000000000000001\n"));
     }
 

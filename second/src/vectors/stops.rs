@@ -97,7 +97,9 @@ fn branches_in_slots() -> Vec<Image> {
     let mut images = Vec::new();
     for (name, word) in leaving() {
         images.push(
-            Draft::kernel(format!("stop-17-{name}-after-taken")).code(&[beq(0, 0, 4), word]).image(),
+            Draft::kernel(format!("stop-17-{name}-after-taken"))
+                .code(&[beq(0, 0, 4), word])
+                .image(),
         );
         images.push(
             Draft::kernel(format!("stop-17-{name}-after-not-taken"))
@@ -111,18 +113,19 @@ fn branches_in_slots() -> Vec<Image> {
                 .budget(2)
                 .image(),
         );
-        images.push(
-            user(format!("stop-17-{name}-in-user-mode"), &[beq(0, 0, 4), word]).image(),
-        );
+        images.push(user(format!("stop-17-{name}-in-user-mode"), &[beq(0, 0, 4), word]).image());
     }
     images.push(
         user("stop-17-eret-in-user-mode-with-cu0", &[beq(0, 0, 4), ERET])
             .cp0(number::STATUS, 0x1000_0010)
             .image(),
     );
-    for (name, word) in [("reserved", 0x7c00_0000), ("unusable", 0x4400_0000), ("syscall", SYSCALL)] {
+    for (name, word) in [("reserved", 0x7c00_0000), ("unusable", 0x4400_0000), ("syscall", SYSCALL)]
+    {
         images.push(
-            Draft::kernel(format!("no-stop-17-{name}-in-a-slot")).code(&[beq(0, 0, 4), word]).image(),
+            Draft::kernel(format!("no-stop-17-{name}-in-a-slot"))
+                .code(&[beq(0, 0, 4), word])
+                .image(),
         );
     }
     images
@@ -132,7 +135,8 @@ fn branches_in_slots() -> Vec<Image> {
 fn values_not_built() -> Vec<Image> {
     let mut images = Vec::new();
     for bit in 0..32 {
-        for (kind, word) in [("mtc0", mtc0(1, number::STATUS)), ("dmtc0", dmtc0(1, number::STATUS))] {
+        for (kind, word) in [("mtc0", mtc0(1, number::STATUS)), ("dmtc0", dmtc0(1, number::STATUS))]
+        {
             if [3, 5, 6, 7, 25, 29, 30, 31].contains(&bit) {
                 images.push(
                     Draft::kernel(format!("stop-18-status-bit-{bit}-{kind}"))
@@ -161,7 +165,9 @@ fn values_not_built() -> Vec<Image> {
             );
         }
     }
-    for (name, mask) in [("gap", 0x1_8000u64), ("two-runs", 0x1e_6000), ("below", 0x7000), ("above", 0x200_6000)] {
+    for (name, mask) in
+        [("gap", 0x1_8000u64), ("two-runs", 0x1e_6000), ("below", 0x7000), ("above", 0x200_6000)]
+    {
         images.push(
             Draft::kernel(format!("stop-18-mask-{name}"))
                 .reg(1, mask)
@@ -219,7 +225,8 @@ mod tests {
     fn names_that_promise_a_stop_keep_it() {
         for image in images() {
             let answer = whole_answer(&image.text, 0, &[]);
-            for (prefix, number) in [("stop-16", "0f10"), ("stop-17", "0f11"), ("stop-18", "0f12")] {
+            for (prefix, number) in [("stop-16", "0f10"), ("stop-17", "0f11"), ("stop-18", "0f12")]
+            {
                 let promised = image.name.starts_with(prefix)
                     && !image.name.contains("-not-for-")
                     && !image.name.contains("-not-when-")

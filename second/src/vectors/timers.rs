@@ -17,7 +17,13 @@ fn running() -> Vec<Image> {
         ("wrap", 0xffff_ffff, 0),
         ("wrap-later", 0xffff_fffe, 1),
     ] {
-        for (kind, status) in [("masked", 0u64), ("enabled", 0x8001), ("exl", 0x8003), ("erl", 0x8005), ("other-mask", 0x7f01)] {
+        for (kind, status) in [
+            ("masked", 0u64),
+            ("enabled", 0x8001),
+            ("exl", 0x8003),
+            ("erl", 0x8005),
+            ("other-mask", 0x7f01),
+        ] {
             images.push(
                 Draft::kernel(format!("timer-{name}-{kind}"))
                     .cp0(number::STATUS, status)

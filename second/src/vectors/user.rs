@@ -163,15 +163,15 @@ fn calls() -> Vec<Image> {
             .cp0(number::COMPARE, 1)
             .budget(3)
             .image(),
-        with_data(user("user-with-cu0-makes-itself-kernel", &[mtc0(12, 12), lw(1, 0, 13), ld(2, 0, 13)]))
-            .cp0(number::STATUS, 0x1000_0010)
-            .reg(12, 0)
-            .reg(13, RAM_HIGH + 0x4000)
-            .image(),
-        Draft::kernel("kernel-makes-itself-user")
-            .reg(1, 0x10)
-            .code(&[mtc0(1, 12), NOP])
-            .image(),
+        with_data(user(
+            "user-with-cu0-makes-itself-kernel",
+            &[mtc0(12, 12), lw(1, 0, 13), ld(2, 0, 13)],
+        ))
+        .cp0(number::STATUS, 0x1000_0010)
+        .reg(12, 0)
+        .reg(13, RAM_HIGH + 0x4000)
+        .image(),
+        Draft::kernel("kernel-makes-itself-user").reg(1, 0x10).code(&[mtc0(1, 12), NOP]).image(),
     ]
 }
 

@@ -7,6 +7,8 @@ use crate::assemble::*;
 pub const POINTERS: [u32; 8] = [16, 17, 18, 19, 20, 21, 22, 23];
 /// Registers that hold addresses of code.
 pub const CODE_POINTERS: [u32; 2] = [24, 25];
+/// Registers that hold a highest and a lowest number.
+pub const EXTREMES: [u32; 2] = [14, 15];
 /// A register that holds a Status value that is built.
 pub const STATUS_REGISTER: u32 = 26;
 /// A register that holds a legal page mask.
@@ -156,7 +158,7 @@ fn moving(random: &mut Random) -> u32 {
 /// Gives a word that raises or may raise an exception by itself.
 fn raising(random: &mut Random) -> u32 {
     let (rs, rt) = (register(random), register(random));
-    match random.below(12) {
+    match random.below(14) {
         0 => SYSCALL | random.word_below(1 << 20) << 6,
         1 => BREAK | random.word_below(1 << 20) << 6,
         2..=4 => special(random.pick(&TRAP_FUNCTIONS), rs, rt, 0, 0),
@@ -164,6 +166,10 @@ fn raising(random: &mut Random) -> u32 {
         8 => random.pick(&[0x4400_0000, 0x4800_0000, 0xc400_0000, 0xe800_0000, 0xdc00_0000]),
         9 => random.pick(&[0x4c00_0000, 0x7000_0000, 0xcc00_0000, 0xec00_0000, 0x0000_0001]),
         10 => 0x4000_0000 | random.word_below(1 << 26),
+        11 | 12 => {
+            let function = random.pick(&[0x20, 0x22, 0x2c, 0x2e]);
+            special(function, random.pick(&EXTREMES), random.pick(&EXTREMES), rt, 0)
+        }
         _ => random.next() as u32,
     }
 }

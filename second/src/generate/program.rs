@@ -1,6 +1,8 @@
 //! Random machines with a program to run.
 
-use super::instructions::{program, CODE_POINTERS, MASK_REGISTER, POINTERS, STATUS_REGISTER};
+use super::instructions::{
+    program, CODE_POINTERS, EXTREMES, MASK_REGISTER, POINTERS, STATUS_REGISTER,
+};
 use super::random::Random;
 use super::values;
 use crate::assemble::*;
@@ -18,6 +20,23 @@ struct Place {
 struct Pair {
     base: u64,
     mask: u32,
+    /// The frames of the even and the odd half.
+    frames: [u32; 2],
+}
+
+/// Gives the physical addresses of three runs of doublewords that hold data.
+fn hot_addresses(random: &mut Random) -> Vec<u32> {
+    let mut addresses = Vec::new();
+    for _ in 0..3 {
+        let page = (2 + random.word_below(14)) << 12;
+        let inside = match random.below(3) {
+            0 => 0,
+            1 => 0xfc0,
+            _ => random.word_below(0xfc0) & !7,
+        };
+        addresses.extend((0..8).map(|place| page + inside + 8 * place));
+    }
+    addresses
 }
 
 /// Gives the bytes of one page under a mask.
@@ -62,7 +81,13 @@ fn map_program(random: &mut Random, draft: Draft, place: &Place, space: u32) -> 
 }
 
 /// Adds page pairs of data at bases that do not overlap, some in several address spaces.
-fn map_data(random: &mut Random, mut draft: Draft, space: u32, user: bool) -> (Draft, Vec<Pair>) {
+fn map_data(
+    random: &mut Random,
+    mut draft: Draft,
+    space: u32,
+    user: bool,
+    hot: &[u32],
+) -> (Draft, Vec<Pair>) {
     let mut pairs = Vec::new();
     let mut slot = 8;
     for number in 0..3 + random.below(4) {
@@ -70,45 +95,59 @@ fn map_data(random: &mut Random, mut draft: Draft, space: u32, user: bool) -> (D
         let region = if high { 0xc800_0000 } else { 0x0800_0000 };
         let base: u64 = region + (number << 26);
         let mask = values::mask(random);
-        for _ in 0..1 + random.below(4) / 3 {
-            let lows = [0, 1].map(|_| {
-                let frame = match random.below(12) {
-                    0 => random.word_below(1 << 24),
-                    1 => random.word_below(2),
-                    _ => 2 + random.word_below(14),
-                };
-                let large = if mask > 0x6000 && !random.one_in(4) { 0 } else { frame };
-                large << 6 | values::entry_bits(random)
+        for copy in 0..1 + random.below(4) / 3 {
+            let frames = [0, 1].map(|_| match random.below(12) {
+                0 => random.word_below(1 << 24),
+                1 => random.word_below(16),
+                _ => random.pick(hot) >> 12,
             });
-            let asid = if random.one_in(6) { random.pick(&values::SPACES) } else { space };
+            let lows = frames.map(|frame| frame << 6 | values::entry_bits(random));
+            pairs.push(Pair { base, mask, frames });
+            let other = random.pick(&values::SPACES);
+            let asid = match copy {
+                0 if !random.one_in(6) => space,
+                0 => other,
+                _ if other == space && !random.one_in(8) => space ^ 0x10,
+                _ => other,
+            };
             let page = base as u32 | if random.one_in(4) { mask } else { 0 };
             draft = draft.slot(slot, [mask, page | asid, lows[0], lows[1]]);
             slot += 1 + random.word_below(3);
         }
-        pairs.push(Pair { base, mask });
     }
     (draft, pairs)
 }
 
+/// Gives an address inside a pair that leads to data, if the pair has one.
+fn address_in(random: &mut Random, pair: &Pair, hot: &[u32]) -> u64 {
+    let bytes = page_bytes(pair.mask);
+    let half = random.below(2);
+    let window = ((pair.frames[half as usize] as u64) << 12) & !(bytes - 1);
+    let mut offset = match random.below(6) {
+        0 => bytes - 8,
+        _ => random.below(bytes.min(0x1_0000)) & !7,
+    };
+    for _ in 0..6 {
+        let physical = random.pick(hot) as u64;
+        if (window..window + bytes).contains(&physical) {
+            offset = physical - window;
+        }
+    }
+    extend(pair.base + half * bytes + offset)
+}
+
 /// Gives a pointer to data, mostly into a mapped pair or unmapped RAM.
-fn pointer(random: &mut Random, pairs: &[Pair], user: bool) -> u64 {
+fn pointer(random: &mut Random, pairs: &[Pair], user: bool, hot: &[u32]) -> u64 {
     let unaligned = if random.one_in(10) { random.below(8) } else { 0 };
     let choice = random.below(12);
     let address = match choice {
-        0..=9 if user || choice <= 7 => {
-            let pair = &pairs[random.below(pairs.len() as u64) as usize];
-            let bytes = page_bytes(pair.mask);
-            let half = random.below(2) * bytes;
-            let offset = match random.below(6) {
-                0 => bytes - 8,
-                1 => 0,
-                _ => random.below(bytes.min(0x1_0000)) & !7,
-            };
-            extend(pair.base + half + offset)
+        0..=9 if user || choice <= 6 => {
+            let place = random.below(pairs.len() as u64) as usize;
+            address_in(random, &pairs[place], hot)
         }
-        8..=9 => {
+        7..=9 => {
             let segment = random.pick(&[0xffff_ffff_8000_0000, 0xffff_ffff_a000_0000]);
-            segment + (0x2000 + random.below(0xe000) & !7)
+            segment + random.pick(hot) as u64
         }
         10 => random.pick(&[
             0xffff_ffff_8000_fff8,
@@ -164,7 +203,8 @@ pub fn draft(random: &mut Random) -> Draft {
         draft = draft.cp0(number::ERROR_EPC, place.start + 4 * random.below(24));
     }
     draft = map_program(random, draft, &place, space);
-    let (mut draft, pairs) = map_data(random, draft, space, user);
+    let hot = hot_addresses(random);
+    let (mut draft, pairs) = map_data(random, draft, space, user, &hot);
     if random.one_in(16) {
         let twin = pairs[0].base as u32 | space;
         draft = draft.slot(40 + random.word_below(8), [pairs[0].mask, twin, 6, 6]);
@@ -173,21 +213,23 @@ pub fn draft(random: &mut Random) -> Draft {
         draft = draft.reg(register, values::operand(random));
     }
     for register in POINTERS {
-        draft = draft.reg(register, pointer(random, &pairs, user));
+        draft = draft.reg(register, pointer(random, &pairs, user, &hot));
     }
     for register in CODE_POINTERS {
         draft = draft.reg(register, place.start + 4 * random.below(32));
     }
     draft = draft
+        .reg(EXTREMES[0], random.pick(&[0x7fff_ffff, i64::MAX as u64]))
+        .reg(EXTREMES[1], random.pick(&[0xffff_ffff_8000_0000, 1 << 63]))
         .reg(STATUS_REGISTER, values::status(random))
         .reg(MASK_REGISTER, values::mask(random) as u64)
         .reg(29, (random.below(16) << 6 | 6 | random.below(2)) as u64)
         .reg(30, (random.below(16) << 6 | 6 | random.below(2)) as u64)
         .reg(0x20, values::operand(random))
         .reg(0x21, values::operand(random));
-    for _ in 0..random.below(24) {
-        let address = 0x2000 + (random.word_below(0xe000) & !7);
-        draft = draft.data(address, values::operand(random));
+    for address in hot {
+        let value = if random.one_in(2) { random.next() } else { values::operand(random) };
+        draft = draft.data(address, value);
     }
     let index = (place.start as u32) >> 2 & 0x03ff_ffff;
     let words = program(random, index, 40);

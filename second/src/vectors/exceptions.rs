@@ -1,6 +1,6 @@
 //! Every exception, with and without EXL, BEV and a slot.
 
-use super::common::{frame, PATTERN};
+use super::common::{frame, skipping, PATTERN, SKIP_STEPS};
 use crate::assemble::*;
 use crate::cp0::number;
 use crate::draft::{Draft, CODE_HIGH, RAM_HIGH};
@@ -196,6 +196,13 @@ pub fn images() -> Vec<Image> {
         images.push(timer_in_slot(exl, bev, taken));
     }
     images.extend(nested());
+    images.push(
+        skipping(with_pages("bd-is-cleared-by-the-next-exception".to_string(), 0))
+            .pc(CODE_HIGH)
+            .code(&[beq(0, 0, 4), SYSCALL])
+            .budget(3 + SKIP_STEPS - 1)
+            .image(),
+    );
     images
 }
 

@@ -92,6 +92,14 @@ fn leaving() -> Vec<(String, u32)> {
     words
 }
 
+/// Gives the name of a branch in a slot in User mode, where ERET is not even usable.
+fn user_name(name: &str) -> String {
+    match name {
+        "eret" => "cpu-before-stop-17-eret".to_string(),
+        _ => format!("stop-17-{name}-in-user-mode"),
+    }
+}
+
 /// Drafts every branch in the slots of a taken and of a not taken branch.
 fn branches_in_slots() -> Vec<Image> {
     let mut images = Vec::new();
@@ -113,7 +121,7 @@ fn branches_in_slots() -> Vec<Image> {
                 .budget(2)
                 .image(),
         );
-        images.push(user(format!("stop-17-{name}-in-user-mode"), &[beq(0, 0, 4), word]).image());
+        images.push(user(user_name(&name), &[beq(0, 0, 4), word]).image());
     }
     images.push(
         user("stop-17-eret-in-user-mode-with-cu0", &[beq(0, 0, 4), ERET])
@@ -231,8 +239,7 @@ mod tests {
                     && !image.name.contains("-not-for-")
                     && !image.name.contains("-not-when-")
                     && !image.name.contains("-not-under-")
-                    && !image.name.contains("-not-before-")
-                    && !image.name.contains("eret-in-user-mode");
+                    && !image.name.contains("-not-before-");
                 if promised {
                     assert!(answer.starts_with(number), "{}", image.name);
                 }

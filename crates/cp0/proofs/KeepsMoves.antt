@@ -14,7 +14,7 @@ use Rattle.cp0.specs.declared.Move.the-variants.{Built, NotBuilt}
 use Rattle.cp0.specs.Registers.{Index, Random, EntryLo0, EntryLo1, Context, PageMask, Wired, Count, EntryHi, Compare, Status, Cause, EPC, Config, TagLo, TagHi, ErrorEPC, set, low, only, replaced, cleared, keptIndex, keptEntryLo, keptWired, keptEntryHi, keptStatus}
 use Rattle.cp0.specs.Moves.{moveWord, moveIn, builtStatus, checkMove}
 use Rattle.cp0.specs.Range.{configInRange, cp0InRange}
-use Rattle.cp0.proofs.Kept.{index-kept, entrylo-kept, wired-kept, entryhi-kept, context-moved, cause-untimed, cause-moved}
+use Rattle.cp0.proofs.KeptBits.{index-kept, entrylo-kept, wired-kept, entryhi-kept, context-moved, cause-untimed, cause-moved}
 use Rattle.cp0.proofs.StatusRange.{status-moved}
 use Rattle.cp0.proofs.KeepsRandom.{top-in}
 use Rattle.cp0.proofs.InRange.{InRange, range-read, range-made, may, set-in, split, join}

@@ -10,7 +10,7 @@ use Rattle.cp0.specs.declared.Cp0.{Cp0}
 use Rattle.cp0.specs.Registers.{Random, Cause, Count, set, replaced, keptCause}
 use Rattle.cp0.specs.Tick.{counted, timed, drawn, ended}
 use Rattle.cp0.specs.Range.{randomInRange, cp0InRange}
-use Rattle.cp0.proofs.Kept.{cause-timed}
+use Rattle.cp0.proofs.KeptBits.{cause-timed}
 use Rattle.cp0.proofs.InRange.{InRange, range-read, range-made, may, set-in, split, join}
 
 -- 47 is in range, whatever Wired holds

@@ -20,7 +20,7 @@ use Rattle.cp0.specs.Tick.{counted, timed, drawn, ended}
 use Rattle.cp0.specs.Range.{randomInRange, statusInRange, configInRange, entriesInRange, controlInRange, cp0InRange}
 use Rattle.cp0.specs.Moves.{builtStatus}
 use Rattle.cp0.proofs.Fits.{told-fits, bd-fits}
-use Rattle.cp0.proofs.Kept.{entryhi-page, context-page, cause-timed, cause-entered}
+use Rattle.cp0.proofs.KeptBits.{entryhi-page, context-page, cause-timed, cause-entered}
 use Rattle.cp0.proofs.StatusRange.{status-entered, status-returned}
 use Rattle.cp0.proofs.InRange.{InRange, range-read, range-made, may, set-in, split, join}
 

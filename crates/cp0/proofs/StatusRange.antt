@@ -13,7 +13,7 @@ use Rattle.cp0.specs.Moves.{builtStatus}
 use Rattle.cp0.specs.Exceptions.{statusReturned}
 use Rattle.cp0.specs.Range.{statusInRange}
 use Rattle.cp0.proofs.Fields.{statusOf}
-use Rattle.cp0.proofs.Kept.{status-kept, status-five}
+use Rattle.cp0.proofs.KeptBits.{status-kept, status-five}
 use Rattle.cp0.proofs.InRange.{split, join}
 
 -- whether a value is built is told by four of its fields

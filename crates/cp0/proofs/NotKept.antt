@@ -7,8 +7,8 @@ use lib.Dec.{eqb}
 use borrow.Author.Tests.{ne-eqb}
 use Rattle.word.specs.Extend.{extend}
 use Rattle.cp0.specs.declared.Cp0.{Cp0}
-use Rattle.cp0.specs.Registers.{kept?, low}
-use Rattle.cp0.specs.Moves.{wordOf, moveOut, moveWord, moveIn}
+use Rattle.cp0.specs.Registers.{kept?}
+use Rattle.cp0.specs.Moves.{wordOf, moveOut, moveControl, moveWord, moveIn}
 
 other : (n k : ℕ) → kept? n ≡ false → kept? k ≡ true → eqb n k ≡ false
 other n k h p = ne-eqb n k (λ e. let z : _≡_ {A = Bool} true false = sym p ∙ ap kept? (sym e) ∙ h in let y : _≡_ {A = ℕ} 0 1 = cc in absurd (omega arith))
@@ -19,5 +19,5 @@ module _ (c : Cp0) (n : ℕ) (h : kept? n ≡ false) where
   not-kept-reads lines = simp (other n 0 h refl, other n 1 h refl, other n 2 h refl, other n 3 h refl, other n 4 h refl, other n 5 h refl, other n 6 h refl, other n 8 h refl, other n 9 h refl, other n 10 h refl, other n 11 h refl, other n 12 h refl, other n 13 h refl, other n 14 h refl, other n 15 h refl, other n 16 h refl, other n 17 h refl, other n 28 h refl, other n 29 h refl, other n 30 h refl)
 
   pub not-kept-drops : (v : ℕ) → moveIn c n v ≡ c
-  unfolding moveIn moveWord kept?
+  unfolding moveIn moveWord moveControl kept?
   not-kept-drops v = simp (other n 0 h refl, other n 2 h refl, other n 3 h refl, other n 4 h refl, other n 5 h refl, other n 6 h refl, other n 9 h refl, other n 10 h refl, other n 11 h refl, other n 12 h refl, other n 13 h refl, other n 14 h refl, other n 16 h refl, other n 28 h refl, other n 29 h refl, other n 30 h refl)

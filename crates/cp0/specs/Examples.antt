@@ -1,11 +1,10 @@
 -- Worked examples, which hold of the definitions by computation.
-use Prim.Native.Nat.{ℕ}
-use mathlib.Core.Bool.{Bool, true, false}
+use mathlib.Core.Bool.{true, false}
 use mathlib.Core.Path.{_≡_, refl}
 use lib.Count.{ones, onesIn, trailingZeros}
 use Rattle.tlb.specs.PageMask.{legalMask, trailingOnes}
 use Rattle.tlb.specs.declared.Mode.the-variants.{User, Kernel, Error}
-use Rattle.cp0.specs.declared.Move.the-variants.{Built, NotBuilt}
+use Rattle.cp0.specs.declared.Move.the-variants.{NotBuilt}
 use Rattle.cp0.specs.declared.Exception.the-variants.{Int, TLBL, CpU}
 use Rattle.cp0.specs.Registers.{set, fresh}
 use Rattle.cp0.specs.Status.{user, modeOf, causeRead, interrupted}

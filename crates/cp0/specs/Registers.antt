@@ -1,6 +1,6 @@
 -- The kept registers: their numbers (document 000), the bits that each keeps, and how one of them is read and set.
 use Prim.Native.Nat.{ℕ, _+_, _*_, _/_, _%_, _^_}
-use mathlib.Core.Bool.{Bool, true, false}
+use mathlib.Core.Bool.{Bool}
 use lib.Dec.{leb, eqb}
 use Rattle.promise.specs.Pick.{pick, both, either}
 use Rattle.memory.specs.declared.PAddr.{PAddr}

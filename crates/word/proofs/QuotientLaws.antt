@@ -1,23 +1,21 @@
 -- Quotients over the width: a signed quotient fits its width, but for the least number by -1; and what the code's division gives.
 use mathlib.Core.Path.{_≡_, refl, sym, ap, _∙_, subst}
-use Prim.Native.Nat.{ℕ, zero, suc, _+_, _-_, _/_, _%_, _^_, _≤_, _<_}
+use Prim.Native.Nat.{ℕ, zero, suc, _-_, _/_, _%_, _^_, _≤_, _<_}
 use native.Mathlib.Nat.{div-le-self, lt-of-le-of-lt, lt-of-lt-of-le, div-one, div-lt-self}
 use native.Mathlib.Numerals.{lt-of-le-of-ne}
 use native.Mathlib.Omega.{arith}
 use borrow.Author.Tests.{eq-eqb, ne-eqb}
-use lib.Dec.{eqb}
 use lib.IntN.{ℤ, pos, negsuc, negℤ, natAbs}
 use lib.Pow.{pow-pos}
 use lib.Signed.{mag, mag-rem, quotZ, remZ}
 use mir.Syntax.{Width, w64}
-use mir.Val.{bits, hbits, Fits, SFits, toZ, ofZ}
+use mir.Val.{bits, hbits, SFits, toZ, ofZ}
 use mir.ValLaws.{pow-bits, toZ-pos, toZ-ofZ, sfits-le}
-use Rattle.promise.specs.Pick.{pick}
 use Rattle.word.specs.declared.HiLo.{HiLo}
 use Rattle.word.specs.Extend.{low, unsigned, signed, register, extend}
-use Rattle.word.specs.Quotient.{byZero, divided, quotient, quotientUnsigned}
+use Rattle.word.specs.Quotient.{towardZero, remainder, byZero, divided, quotient, quotientUnsigned}
 use Rattle.word.proofs.Registers.{holds, signed-fits, signed-back, register-fits}
-use Rattle.word.proofs.CompareLaws.{seen, seen-both}
+use Rattle.word.proofs.CompareLaws.{seen-both}
 
 mag-neg : (r : ℕ) {a : ℕ} → r ≤ suc a → mag (negℤ (pos r)) ≤ a
 mag-neg zero h = omega arith
@@ -44,10 +42,22 @@ pub zero-divisor : (w : Width) (x y : ℤ) → natAbs y ≡ 0 → divided w x y 
 unfolding divided
 zero-divisor w x y e = rw (eq-eqb (natAbs y) 0 e)
 
+-- the signed types divide as the rule says
+same-quotient : (x y : ℤ) → towardZero x y ≡ quotZ x y
+same-quotient (pos a) (pos b) = refl
+same-quotient (pos a) (negsuc b) = refl
+same-quotient (negsuc a) (pos b) = refl
+same-quotient (negsuc a) (negsuc b) = refl
+
+same-remainder : (x y : ℤ) → remainder x y ≡ remZ x y
+same-remainder (pos a) y = refl
+same-remainder (negsuc a) y = refl
+
 -- any other
 pub other-divisor : (w : Width) (x y : ℤ) → (natAbs y ≡ 0 → ⊥) → divided w x y ≡ record { hi = register w (remZ x y); lo = register w (quotZ x y) }
 unfolding divided
-other-divisor w x y e = rw (ne-eqb (natAbs y) 0 e)
+other-divisor w x y e =
+    rw (ne-eqb (natAbs y) 0 e) (λ i. record { hi = register w (same-remainder x y i); lo = register w (same-quotient x y i) })
 
 -- the code's signed division of the numbers x and y that the low bits of a and b are
 module _ (w : Width) (a b : ℕ) (x y : ℤ) (ex : x ≡ signed w a) (ey : y ≡ signed w b) (nz : low w b ≡ 0 → ⊥) (nl : low w a ≡ 2 ^ hbits w → low w b ≡ 2 ^ bits w - 1 → ⊥) where

@@ -4,7 +4,7 @@
 # pair's entry: 80000000 + (address / 2000h) x 16. For addresses from 00400000 the entries stand from 80002000 on, a doubleword for
 # EntryLo0 and one for EntryLo1.
 # The program stores to four pages and reads two back. Each pair is missed once, at its first use, and then stays in a random slot.
-# After the run: s0 = what was stored at 00400000, s1 = at 00403000, s2 = refills, s3 = bytes that the two sums came to.
+# After the run: s0 = what was stored at 00400000, s1 = at 00403000, s2 = refills, s3 = the sum of the two.
 
         .set    noreorder
         .set    noat

@@ -1,7 +1,6 @@
 # An answer of cardrun or cardstate in words: the image's text first (it may be empty), then the answer.
 # Needs hex.awk, names.awk, frames.awk and fields.awk.
 
-FNR == 1 { files++ }
 FILENAME ~ /image\.text$/ { quoted[++image_lines] = $0; next }
 { answer[++lines] = $0 }
 
@@ -22,18 +21,28 @@ function fault_of_answer(i, refused) {
     if (!lines)
         return "the answer is empty; write: ./card run IMAGE | ./card explain"
     if (answer[1] !~ /^0[ef]/ || !is_answer_line(answer[1]))
-        return "this is no answer of cardrun or cardstate: its first line is '" substr(answer[1], 1, 60) "', not a frame 0e or 0f" \
+        return "this is no answer of cardrun or cardstate: its first line is '" shown(answer[1]) "', not a frame 0e or 0f with a number that the card gives" \
             (frame_fault(answer[1]) ? "" : "; for an image write: ./card list IMAGE")
     refused = answer[1] ~ /^0e/
     for (i = 2; i <= lines; i++)
         if (refused || answer[i] ~ /^0[ef]/ || !is_answer_line(answer[i]))
-            return "line " i " does not belong in an answer: '" substr(answer[i], 1, 60) "'"
+            return "line " i " does not belong in an answer: '" shown(answer[i]) "'"
+    if (!refused && !has_pc())
+        return "the answer is cut short: it has no PC; write: ./card run IMAGE | ./card explain"
     return ""
+}
+
+function has_pc(i) {
+    for (i = 2; i <= lines; i++)
+        if (answer[i] ~ /^0122/)
+            return 1
+    return 0
 }
 
 function is_answer_line(line) {
     if (line ~ /[^0-9a-f]/) return 0
-    if (line ~ /^0[ef]/) return length(line) == 12 && stop_meaning(number(substr(line, 3, 2))) != ""
+    if (line ~ /^0e/) return line ~ /^0e0[1-8]/ && length(line) == 12
+    if (line ~ /^0f/) return line ~ /^0f(00|1[0-3])/ && length(line) == 12
     if (line ~ /^0a/) return length(line) == 22
     return line !~ /^03/ && !frame_fault(line)
 }
@@ -52,12 +61,19 @@ function quote_line(line) {
     if (ENVIRON["IMAGE"] == "")
         print "  (give the image as --image IMAGE to see the line)"
     else if (line > image_lines)
-        print "  the image has " image_lines " lines; the budget was expected here at the latest"
+        print "  the image ends at line " image_lines ", with no budget frame"
     else {
-        print "  in the image: '" substr(quoted[line], 1, 200) "'"
-        if (frame_fault(quoted[line]))
-            print "  " fault_reason
+        print "  in the image: '" shown(quoted[line]) "'"
+        print "  " line_fault(line)
     }
+}
+
+function line_fault(line) {
+    if (frame_fault(quoted[line]))
+        return fault_reason
+    if (line == image_lines && ENVIRON["ENDED"] == "")
+        return "the line is not ended by LF"
+    return "a frame after the budget"
 }
 
 function explain_run(i, tag, place) {
@@ -81,13 +97,18 @@ function explain_run(i, tag, place) {
     if (ram_frames) explain_ram()
 }
 
-function explain_registers(place) {
-    if (34 in register)
-        print "PC: " address(register[34])
+function explain_registers(place, line, count) {
+    print "PC: " address(register[34])
     print "Registers that are not 0:"
     for (place = 0; place <= 33; place++)
-        if (place in register && register[place] !~ /^0+$/)
-            printf "  %-4s %-4s %s  %s\n", place < 32 ? "r" place : "", register_name(place), register[place], decimal(register[place])
+        if (place in register && register[place] !~ /^0+$/) {
+            line = sprintf("  %-4s %-4s %s  %s", place < 32 ? "r" place : "", register_name(place), register[place], decimal(register[place]))
+            sub(/ +$/, "", line)
+            print line
+            count++
+        }
+    if (!count)
+        print "  none"
 }
 
 function explain_pending() {
@@ -98,21 +119,23 @@ function explain_pending() {
     print "Link bit (LL and SC): " (substr(pending, 19) == "00" ? "clear" : "set")
 }
 
-function explain_cp0(status, cause, place, shown) {
+function explain_cp0(status, cause, place, value) {
     status = number(substr(cp0[12], 9))
     cause = number(substr(cp0[13], 9))
     if (bits(status, 1, 1))
         print "Exception under way: " exception_words(cause) "; at " address(cp0[14]) (bits(cause, 31, 1) ? ", in the slot of that branch" : "")
+    else if (bits(cause, 2, 5))
+        print "Exception: none under way; the last one was " exception_words(cause)
     else
-        print "Exception: none under way; Cause still names " exception_words(cause)
+        print "Exception: none under way; the last one was an interrupt, or there was none"
     print "Status " hex(status, 8) ": " status_fields(status)
     print "  " status_words(status)
     print "Cause " hex(cause, 8) ": " cause_fields(cause)
     print "CP0 registers:"
     for (place = 0; place < 32; place++)
         if (place in cp0) {
-            shown = cp0_is_wide(place) ? cp0[place] : substr(cp0[place], 9)
-            printf "  %-2d %-8s %16s%s\n", place, cp0_name(place), shown, cp0_remark(place)
+            value = cp0_is_wide(place) ? cp0[place] : substr(cp0[place], 9)
+            printf "  %-2d %-8s %16s%s\n", place, cp0_name(place), value, cp0_remark(place)
         }
 }
 
@@ -149,5 +172,5 @@ function explain_slots(place, fresh, m, h, a, b) {
 function explain_ram(i) {
     print "RAM that is not 0, by physical address:"
     for (i = 1; i <= ram_frames; i++)
-        printf "  %s  %s %s  %s\n", ram_address[i], substr(ram_bytes[i], 1, 8), substr(ram_bytes[i], 9), characters(ram_bytes[i])
+        printf "  %s  %s %s  |%s|\n", ram_address[i], substr(ram_bytes[i], 1, 8), substr(ram_bytes[i], 9), characters(ram_bytes[i])
 }

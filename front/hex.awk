@@ -57,3 +57,10 @@ function characters(text, i, code, out) {
 function address(text) {
     return is_word(text) ? substr(text, 9) : text
 }
+
+# A line of somebody's text, fit to be shown: at most 200 characters, those that cannot be printed as '?'.
+function shown(text) {
+    text = substr(text, 1, 200)
+    gsub(/[^ -~]/, "?", text)
+    return text
+}

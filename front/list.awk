@@ -33,7 +33,7 @@ function list_line(i, line, fault) {
         fault_reason = "a frame after the budget"
     }
     if (fault) {
-        printf "%4d  %s\n      ^ refused, %d: %s\n", i, substr(line, 1, 200), fault, fault_reason
+        printf "%4d  %s\n      ^ refused, %d: %s\n", i, shown(line), fault, fault_reason
         refuse(fault, i, fault_reason)
     } else
         list_frame(i, substr(line, 1, 2), number(substr(line, 3, 2)), substr(line, 5))

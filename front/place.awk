@@ -15,7 +15,7 @@ function read_image(i) {
     for (i = 1; i <= lines; i++)
         if (text[i] ~ /^02/ && !frame_fault(text[i])) {
             seen[i] = seen_at(number(substr(text[i], 3, 8)))
-            layer_of[i] = ++times[seen[i]]
+            layer_of[i] = ++times[hex(seen[i], 8)] # as text: large numbers are no exact keys
         }
 }
 

@@ -1,6 +1,16 @@
 # Finds the proved programs, proves and builds them the first time, and runs them as rt does.
 # shellcheck shell=bash
 
+# Prints the answer of a proved program to an image, once it is whole: answer_of IMAGE NAME [ARGUMENTS..]
+answer_of() {
+  local image=$1
+  shift
+  make_scratch
+  if [ "$image" = - ]; then program "$@"; else program "$@" <"$image"; fi >"$scratch/answer" ||
+    fail "$1 ended with status $?, so there is no answer"
+  emit "$scratch/answer"
+}
+
 # Runs a proved program with what is on standard input: program NAME [ARGUMENTS..]
 # CARD_BIN names a folder with other programs of these names; they run as they are.
 program() {

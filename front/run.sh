@@ -8,5 +8,5 @@ card_run() {
   [ $# -ge 1 ] || wrong "the image is missing; write: $use"
   [ $# -eq 1 ] || wrong "one image is wanted, and here are $# words; write: $use"
   readable "$1" "an image" "$use"
-  if [ "$1" = - ]; then program cardrun; else program cardrun <"$1"; fi
+  answer_of "$1" cardrun
 }

@@ -19,5 +19,5 @@ card_state() {
     case $2 in /*) rom=$2 ;; *) rom=$PWD/$2 ;; esac
     set -- "$1" "$rom"
   fi
-  if [ "$image" = - ]; then program cardstate "$@"; else program cardstate "$@" <"$image"; fi
+  answer_of "$image" cardstate "$@"
 }

@@ -8,7 +8,7 @@
 image_use='./card image PROGRAM.elf [-o IMAGE]; options: ./card help image'
 
 card_image() {
-  local program='' kernel='' user='' output='' budget=10000 registers=() moves=() slots=() status_given='' pc_given=''
+  local program='' kernel='' user='' output='' budget=10000 registers=() moves=() slots=() pc_given=''
   read_options "$@"
   [ -n "$program" ] || wrong "the program is missing; write: $image_use"
   [ -z "$kernel" ] || [ -n "$user" ] || wrong "--kernel goes with --user; write: ./card image PROGRAM.elf --user --kernel KERNEL.elf"
@@ -64,13 +64,13 @@ check_output() {
   if [ "$output" -ef "$program" ] || [ "$output" -ef "${kernel:-/}" ]; then wrong "-o names the program itself; write another -o IMAGE"; fi
 }
 
-# The frames after the RAM's: TLB slots, CP0 registers, registers, PC, budget; each option is held to document 01.
+# The frames after the RAM's: TLB slots, CP0 registers, registers, PC, budget. An option takes the place of what the preset would set.
 add_frames() {
   local option
   for option in "${slots[@]}"; do slot_option "$option"; done
-  for option in "${moves[@]}"; do cp0_option "$option"; done
-  [ -n "$status_given" ] || add "Status" "040c00000000000000$([ -n "$user" ] && echo 10 || echo 00)"
+  add "Status" "040c00000000000000$([ -n "$user" ] && echo 10 || echo 00)"
   [ -z "$user" ] || add "the ASID" 040a0000000000000001
+  for option in "${moves[@]}"; do cp0_option "$option"; done
   [ -z "$user" ] || add "the stack pointer" "011d000000007ffffff0"
   for option in "${registers[@]}"; do register_option "$option"; done
   if [ -z "$pc_given" ]; then
@@ -87,10 +87,18 @@ add() {
   printf '%s\n' "$2" >>"$scratch/frames"
 }
 
+# Of the frames for one register or slot, the last, where the first stood.
+last_of_each() {
+  awk '{ key = substr($0, 1, 4) }
+    !(key in frame) { order[++count] = key }
+    { frame[key] = $0 }
+    END { for (i = 1; i <= count; i++) print frame[order[i]] }' "$1"
+}
+
 # Puts the image together and holds it to 65,536 bytes.
 check_text() {
   local bytes
-  cat -- "$scratch/ram" "$scratch/frames" >"$scratch/image" || fail "the image cannot be written to $scratch"
+  { cat "$scratch/ram" && last_of_each "$scratch/frames"; } >"$scratch/image" || fail "the image cannot be written to $scratch"
   bytes=$(wc -c <"$scratch/image")
   [ "$bytes" -le 65536 ] ||
     fail "the image's text would have $bytes bytes, over 65,536; the largest section is $(largest_section); a frame of 27 bytes holds 8 bytes that are not all zero"
@@ -99,7 +107,11 @@ check_text() {
 # Moves the finished image to its place, so that no half of it is ever there.
 keep_output() {
   local whole
-  whole=$(mktemp "$output.XXXXXX" 2>/dev/null) || fail "the image cannot be written beside '$output'; write another -o IMAGE"
+  if [ -e "$output" ] && [ ! -f "$output" ]; then # a pipe or a device: nothing to move there
+    emit "$scratch/image" >"$output"
+    return
+  fi
+  whole=$(mktemp -- "$output.XXXXXX" 2>/dev/null) || fail "the image cannot be written beside '$output'; write another -o IMAGE"
   if cat -- "$scratch/image" >"$whole" && chmod "$(printf %o $((0666 & ~0$(umask))))" "$whole" && mv -f -- "$whole" "$output"; then return; fi
   rm -f -- "$whole"
   fail "the image cannot be written to '$output'"

@@ -63,7 +63,7 @@ build() {
   if ! built "$name"; then
     touch "$mark.start"
     [ -x "$root/target/bin/$name" ] ||
-      note "proving and building $name and what it is made of, $(crates_of "$name") crates; this takes minutes, the first time only"
+      note "proving and building $name from $(crates_of "$name") crates; this takes minutes, the first time only"
     (cd "$root" && rt check "$name") 2>&1 9>&- </dev/null | tee "$log" | progress "$name" "$(crates_of "$name")"
     status=${PIPESTATUS[0]}
     [ "$status" -eq 0 ] || fail "$name could not be proved and built; target/front/$name.log has all that rt said"
@@ -99,7 +99,7 @@ progress() {
       done=$((done + 1))
       note "$done of $2: ${line#rt: }"
       ;;
-    'rt: '*'NOT PROVED'* | 'rt: '*FAILED* | 'rt: crates.txt'*) note "${line#rt: }" ;;
+    'rt: '*'NOT PROVED'* | 'rt: '*' its run FAILED'* | 'rt: crates.txt'*) note "${line#rt: }" ;;
     esac
   done
 }

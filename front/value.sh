@@ -50,7 +50,6 @@ cp0_option() {
   halves --cp0 "$1"
   place=$(awk_with 'hex names number' -v "kind=cp0" -v "name=${left,,}") ||
     wrong "--cp0 $1: '$left' is no CP0 register that the card keeps and lets be written; write a name, as status, or a number, as 12"
-  [ "$place" != 0c ] || status_given=yes
   add "--cp0 $1" "04$place$right"
 }
 

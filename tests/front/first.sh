@@ -9,7 +9,7 @@ first_build() {
   printf 'echo gate "$@"\n' >"$place/repository/.ci/run"
   : >"$place/kit/on/$(uname -m)/toolchain/lib/ld-linux-x86-64.so.2"
   write_kit
-  hold "first build: a line for each crate" says 'card: proving and building cardrun and what it is made of, 3 crates; this takes minutes, the first time only
+  hold "first build: a line for each crate" says 'card: proving and building cardrun from 3 crates; this takes minutes, the first time only
 card: 1 of 3: word proved (2 s)
 card: 2 of 3: image proved (4 s)
 card: 3 of 3: cardrun proved (1 s)' run "$T/worked"

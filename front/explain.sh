@@ -36,5 +36,7 @@ explain_in_words() {
   for file in answer image; do # NUL has no place in awk, and is no frame's character either
     tr '\000' '?' <"$scratch/$file" >"$scratch/$file.text"
   done
-  IMAGE=$1 ENDED=$(tail -c 1 "$scratch/image" | tr -d -c "\n" | tr "\n" y) awk_with 'hex names frames fields explain' "$scratch/image.text" "$scratch/answer.text"
+  ENDED=$(tail -c 1 "$scratch/image" | tr -d -c "\n" | tr "\n" y)
+  export ENDED
+  IMAGE=$1 awk_with 'hex names frames fields explain' "$scratch/image.text" "$scratch/answer.text"
 }

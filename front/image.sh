@@ -101,7 +101,8 @@ check_text() {
   { cat "$scratch/ram" && last_of_each "$scratch/frames"; } >"$scratch/image" || fail "the image cannot be written to $scratch"
   bytes=$(wc -c <"$scratch/image")
   [ "$bytes" -le 65536 ] ||
-    fail "the image's text would have $bytes bytes, over 65,536; the largest section is $(largest_section); a frame of 27 bytes holds 8 bytes that are not all zero"
+    fail "the image's text would have $bytes bytes, over 65,536 (27 for each 8 that are not zero);" \
+      "the largest section is $(largest_section)"
 }
 
 # Moves the finished image to its place, so that no half of it is ever there.

@@ -73,7 +73,8 @@ find_mips() {
 }
 
 need_mips() {
-  find_mips || fail "the MIPS binutils (objdump and its kin) are not on this machine; install Debian's package $mips_package: apt-get install $mips_package"
+  find_mips || fail "the MIPS binutils (objdump and its kin) are not on this machine;" \
+    "install Debian's package $mips_package: apt-get install $mips_package"
   need "$mips_package" "${mips}objdump" "${mips}objcopy" "${mips}readelf" "${mips}nm"
 }
 

@@ -58,8 +58,10 @@ place_unmapped() {
     size=$((16#$size))
     lma=$(word_of "$lma") || fail "section $name: $size bytes at $lma, which is no 32-bit address"
     physical=$(physical_of "$lma")
-    [ "$physical" -ge 0 ] || fail "section $name: $size bytes at $lma, a mapped address; link it at 80000000 upward, or give it a load address in RAM"
-    [ $((physical + size)) -le "$ram_size" ] || fail "section $name: $size bytes at $lma do not fit in the RAM, 65,536 bytes at 80000000; $(fit_advice "$physical")"
+    [ "$physical" -ge 0 ] ||
+      fail "section $name: $size bytes at $lma, a mapped address; link it at 80000000 upward, or give it a load address in RAM"
+    [ $((physical + size)) -le "$ram_size" ] ||
+      fail "section $name: $size bytes at $lma do not fit in the RAM, 65,536 bytes at 80000000; $(fit_advice "$physical")"
     placed+=("$physical $size $name $loaded $file")
   done <"$2"
 }

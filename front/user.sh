@@ -43,7 +43,8 @@ map_pages() {
     start=$((frame[$((16#$vma >> 12))] * 4096 + (16#$vma & 4095)))
     place_page "$name" $((16#$size)) "$vma" "$start" "$loaded"
   done <"$scratch/low"
-  [ "$next" -le 16 ] || fail "the program, its stack and the kernel want $next pages of 4096 bytes, and the RAM has 16; the largest section is $(largest_section)"
+  [ "$next" -le 16 ] ||
+    fail "the program, its stack and the kernel want $next pages of 4096 bytes, and the RAM has 16; the largest section is $(largest_section)"
   map_slots
 }
 

@@ -40,6 +40,7 @@ printf '#!/bin/sh\ncat >/dev/null\necho %s answers $1\n' "$2" >"target/bin/$2"
 chmod +x "target/bin/$2"
 echo "rt: $2 ran, and wrote what its file 'stdout' has (0 s)"
 RT
+  # shellcheck disable=SC2016
   printf '#!/bin/sh\n[ "$2" = --library-path ] || exit 9\nshift 3\nexec "$@"\n' >"$place/kit/on/$(uname -m)/toolchain/bin/qemu-x86_64"
   chmod +x "$place/path/rt" "$place/kit/on/$(uname -m)/toolchain/bin/qemu-x86_64"
 }

@@ -1,7 +1,7 @@
 # Files that the cases use, in the folder $T: programs assembled from programs/, images and answers good and bad.
 # shellcheck shell=bash disable=SC2154
 
-mips=mips-linux-gnu-
+mips='mips-linux-gnu-'
 package=binutils-mips-linux-gnu
 
 prepare() {

@@ -31,6 +31,7 @@ need() {
 # Makes the folder $scratch, which is gone when the command ends.
 make_scratch() {
   need coreutils mktemp
+  need mawk awk
   scratch=$(mktemp -d "${TMPDIR:-/tmp}/card.XXXXXX") || fail "no temporary folder can be made in ${TMPDIR:-/tmp}"
   trap 'rm -rf -- "$scratch"' EXIT
   trap 'exit 129' HUP
@@ -82,7 +83,6 @@ need_mips() {
 awk_with() {
   local name names=$1 files=()
   shift
-  need mawk awk
   for name in $names; do files+=(-f "$front/$name.awk"); done
   awk "${files[@]}" "$@"
 }

@@ -72,7 +72,7 @@ fails_with() {
 missing_toolchain() {
   local bare=$place/bare command
   mkdir "$bare"
-  for command in bash env dirname readlink uname mktemp rm cat; do ln -s "$(command -v "$command")" "$bare/$command"; done
+  for command in bash env dirname readlink uname mktemp rm cat awk; do ln -s "$(command -v "$command")" "$bare/$command"; done
   env -u CARD_BIN -u RATTLE_HOME PATH="$bare" "$place/repository/card" run "$T/worked" >"$T/wrote" 2>"$T/said"
   [ $? -eq 1 ] && [ ! -s "$T/wrote" ] && grep -q '^card: rt, the Rattle toolchain.s command, is not on the path' "$T/said"
 }

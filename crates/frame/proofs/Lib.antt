@@ -1,0 +1,3 @@
+-- What the proofs share, and that each contract says all.
+pub mod Laws
+pub mod Once

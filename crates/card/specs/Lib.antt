@@ -1,1 +1,4 @@
--- The rulebook's machine and run.
+-- The rulebook's machine: fresh, its range, one step, a run, and the numbers that a call gives back.
+pub mod Machine
+pub mod Step
+pub mod Run

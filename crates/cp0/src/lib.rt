@@ -1,5 +1,25 @@
 // CP0: the kept registers, moves to and from them, the mode, exceptions, and the end of a step.
-use memory::PAddr;
+mod exceptions;
+mod moves;
+mod registers;
+mod status;
+mod tick;
+
+pub use exceptions::entered;
+pub use exceptions::return_to;
+pub use exceptions::returned;
+pub use exceptions::vector;
+pub use moves::move_in;
+pub use moves::move_out;
+pub use registers::fresh_cp0;
+pub use registers::linked;
+pub use registers::probed;
+pub use registers::slot_read;
+pub use status::cp0_usable;
+pub use status::interrupted;
+pub use status::mode_of;
+pub use status::user;
+pub use tick::ended;
 use tlb::VAddr;
 
 // The registers that are kept, 0 to 6, 8 to 17 and 28 to 30, by their manual names.
@@ -48,4 +68,19 @@ pub enum Exception {
 pub enum Move {
     Built,
     NotBuilt,
+}
+
+// The address that an exception leaves: none; the one of an address error; the one of a TLB exception.
+pub enum Bad {
+    Nothing,
+    Address(VAddr),
+    Page(VAddr),
+}
+
+// What an exception tells: its code, the unit for CE, whether it is a refill, and its address.
+pub struct Told {
+    pub code: u32,
+    pub unit: u32,
+    pub refill: bool,
+    pub bad: Bad,
 }

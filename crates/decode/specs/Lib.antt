@@ -1,1 +1,8 @@
 -- The rulebook's decoding.
+pub mod Fields
+pub mod Maps
+pub mod Decode
+pub mod Numbers
+pub mod Doubleword
+pub mod Ready
+pub mod Laws

@@ -1,1 +1,9 @@
 -- The rulebook's addresses and TLB.
+pub mod PageMask
+pub mod Slot
+pub mod Match
+pub mod Translate
+pub mod Segments
+pub mod Probe
+pub mod Range
+pub mod Cards

@@ -55,3 +55,9 @@ pub enum Probe {
     Index(u64),
     Double,
 }
+
+// What TLBR finds: values for PageMask, EntryHi, EntryLo0 and EntryLo1, or no such slot.
+pub enum SlotRead {
+    Is(Slot),
+    Nothing,
+}

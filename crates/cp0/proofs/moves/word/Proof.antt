@@ -1,0 +1,128 @@
+use Prim.Native.Nat.{ℕ}
+use mathlib.Core.Path.{sym, ap}
+use borrow.Author.Tests.{ne-eqb}
+use Rattle.cp0.specs.Moves.{word}
+use borrow.Author.Needs.{needs}
+use Rattle.cp0.proofs.moves.word.Statement.{statement}
+use Rattle.cp0.proofs.moves.word.Tie as tie
+use Rattle.cp0.proofs.moves.word.Reads as reads
+use Rattle.cp0.proofs.moves.word.Lts as lts
+use Rattle.cp0.proofs.registers.low.Reads as low-reads
+use Rattle.cp0.proofs.status.cause_read.Reads as cause-read-reads
+
+-- src/moves.rt:36:15
+low-requires : tie.Need-low-requires
+low-requires c κs = search needs
+
+-- src/moves.rt:39:15
+cause-read-requires : tie.Need-cause-read-requires
+cause-read-requires c κs = search needs
+
+-- src/moves.rt:25:1
+returns : tie.Need-returns
+unfolding word
+returns c = sym (ap (λ (n : ℕ). word (c .before .args .cp0) (c .before .args .lines) n) (c .match .keys1))
+
+-- src/moves.rt:25:1
+returns-2 : tie.Need-returns-2
+unfolding word
+returns-2 c = sym (ap (λ (n : ℕ). word (c .before .args .cp0) (c .before .args .lines) n) (c .match .keys2))
+
+-- src/moves.rt:25:1
+returns-3 : tie.Need-returns-3
+unfolding word
+returns-3 c = sym (ap (λ (n : ℕ). word (c .before .args .cp0) (c .before .args .lines) n) (c .match .keys3))
+
+-- src/moves.rt:25:1
+returns-4 : tie.Need-returns-4
+unfolding word
+returns-4 c = sym (ap (λ (n : ℕ). word (c .before .args .cp0) (c .before .args .lines) n) (c .match .keys4))
+
+-- src/moves.rt:25:1
+returns-5 : tie.Need-returns-5
+unfolding word
+returns-5 c = sym (ap (λ (n : ℕ). word (c .before .args .cp0) (c .before .args .lines) n) (c .match .keys5))
+
+-- src/moves.rt:25:1
+returns-6 : tie.Need-returns-6
+unfolding word
+returns-6 c = sym (ap (λ (n : ℕ). word (c .before .args .cp0) (c .before .args .lines) n) (c .match .keys6))
+
+-- src/moves.rt:25:1
+returns-7 : tie.Need-returns-7
+unfolding word
+returns-7 c = sym (ap (λ (n : ℕ). word (c .before .args .cp0) (c .before .args .lines) n) (c .match .keys7))
+
+-- src/moves.rt:25:1
+returns-8 : tie.Need-returns-8
+unfolding word
+returns-8 c = simp (c .low .ensures) (sym (ap (λ (n : ℕ). word (c .before .before .args .cp0) (c .before .before .args .lines) n) (c .before .match .keys8)))
+
+-- src/moves.rt:25:1
+returns-9 : tie.Need-returns-9
+unfolding word
+returns-9 c = sym (ap (λ (n : ℕ). word (c .before .args .cp0) (c .before .args .lines) n) (c .match .keys9))
+
+-- src/moves.rt:25:1
+returns-10 : tie.Need-returns-10
+unfolding word
+returns-10 c = sym (ap (λ (n : ℕ). word (c .before .args .cp0) (c .before .args .lines) n) (c .match .keys10))
+
+-- src/moves.rt:25:1
+returns-11 : tie.Need-returns-11
+unfolding word
+returns-11 c = simp (c .cause-read .ensures) (sym (ap (λ (n : ℕ). word (c .before .before .args .cp0) (c .before .before .args .lines) n) (c .before .match .keys11)))
+
+-- src/moves.rt:25:1
+returns-12 : tie.Need-returns-12
+unfolding word
+returns-12 c = sym (ap (λ (n : ℕ). word (c .before .args .cp0) (c .before .args .lines) n) (c .match .keys12))
+
+-- src/moves.rt:25:1
+returns-13 : tie.Need-returns-13
+unfolding word
+returns-13 c = sym (ap (λ (n : ℕ). word (c .before .args .cp0) (c .before .args .lines) n) (c .match .keys13))
+
+-- src/moves.rt:25:1
+returns-14 : tie.Need-returns-14
+unfolding word
+returns-14 c = sym (ap (λ (n : ℕ). word (c .before .args .cp0) (c .before .args .lines) n) (c .match .keys14))
+
+-- src/moves.rt:25:1
+returns-15 : tie.Need-returns-15
+unfolding word
+returns-15 c = sym (ap (λ (n : ℕ). word (c .before .args .cp0) (c .before .args .lines) n) (c .match .keys15))
+
+-- src/moves.rt:25:1
+returns-16 : tie.Need-returns-16
+unfolding word
+returns-16 c = sym (ap (λ (n : ℕ). word (c .before .args .cp0) (c .before .args .lines) n) (c .match .keys16))
+
+-- src/moves.rt:25:1
+returns-17 : tie.Need-returns-17
+unfolding word
+returns-17 c = simp (ne-eqb _ _ (c .match .rest .0 .0 .0 .0 .0 .0 .0 .0 .0 .0 .0 .0 .0 .0 .0 .1), ne-eqb _ _ (c .match .rest .0 .0 .0 .0 .0 .0 .0 .0 .0 .0 .0 .0 .0 .0 .1), ne-eqb _ _ (c .match .rest .0 .0 .0 .0 .0 .0 .0 .0 .0 .0 .0 .0 .0 .1), ne-eqb _ _ (c .match .rest .0 .0 .0 .0 .0 .0 .0 .0 .0 .0 .0 .0 .1), ne-eqb _ _ (c .match .rest .0 .0 .0 .0 .0 .0 .0 .0 .0 .0 .0 .1), ne-eqb _ _ (c .match .rest .0 .0 .0 .0 .0 .0 .0 .0 .0 .0 .1), ne-eqb _ _ (c .match .rest .0 .0 .0 .0 .0 .0 .0 .0 .0 .1), ne-eqb _ _ (c .match .rest .0 .0 .0 .0 .0 .0 .0 .0 .1), ne-eqb _ _ (c .match .rest .0 .0 .0 .0 .0 .0 .0 .1), ne-eqb _ _ (c .match .rest .0 .0 .0 .0 .0 .0 .1), ne-eqb _ _ (c .match .rest .0 .0 .0 .0 .0 .1), ne-eqb _ _ (c .match .rest .0 .0 .0 .0 .1), ne-eqb _ _ (c .match .rest .0 .0 .0 .1), ne-eqb _ _ (c .match .rest .0 .0 .1), ne-eqb _ _ (c .match .rest .0 .1), ne-eqb _ _ (c .match .rest .1))
+
+pub word-spec : {M : Type 1} → statement M
+word-spec =
+    tie.close
+    (tie.spec
+    low-requires
+    cause-read-requires
+    returns
+    returns-2
+    returns-3
+    returns-4
+    returns-5
+    returns-6
+    returns-7
+    returns-8
+    returns-9
+    returns-10
+    returns-11
+    returns-12
+    returns-13
+    returns-14
+    returns-15
+    returns-16
+    returns-17)

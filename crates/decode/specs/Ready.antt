@@ -1,0 +1,76 @@
+-- Whether the step may go on with a word once it is decoded: coprocessor unusable, then reserved, then stop 17 (S6, N19).
+use mathlib.Core.Bool.{Bool, true, false}
+use Rattle.promise.specs.Pick.{pick, both, not}
+use Rattle.decode.specs.declared.Instr.{Instr}
+use Rattle.decode.specs.declared.Instr.the-variants.{Load, Store, Arithmetic, ArithmeticImmediate, Logic, LogicImmediate, Shift, ShiftVariable, Multiply, HiLo, Branch, Jump, JumpRegister, Trap, TrapImmediate, Special, Cache, Move, Tlb, Eret}
+use Rattle.decode.specs.declared.Decoded.{Decoded}
+use Rattle.decode.specs.declared.Decoded.the-variants.{Is, Coprocessor, ReservedCop0, Reserved}
+use Rattle.decode.specs.declared.Ready.{Ready}
+use Rattle.decode.specs.declared.Ready.the-variants.{Go, Unusable, InSlot}
+use Rattle.decode.specs.declared.Ready.the-variants as Ready
+use Rattle.decode.specs.Doubleword.{isDouble}
+
+-- a CP0 instruction, or CACHE (T21)
+unfoldable pub isCp0 : Instr → Bool
+isCp0 (Load op base rt offset) = false
+isCp0 (Store op base rt offset) = false
+isCp0 (Arithmetic op rs rt rd) = false
+isCp0 (ArithmeticImmediate op rs rt immediate) = false
+isCp0 (Logic op rs rt rd) = false
+isCp0 (LogicImmediate op rs rt immediate) = false
+isCp0 (Shift op rt rd sa) = false
+isCp0 (ShiftVariable op rs rt rd) = false
+isCp0 (Multiply op rs rt) = false
+isCp0 (HiLo op rs rd) = false
+isCp0 (Branch op rs rt offset) = false
+isCp0 (Jump op target) = false
+isCp0 (JumpRegister op rs rd) = false
+isCp0 (Trap op rs rt) = false
+isCp0 (TrapImmediate op rs immediate) = false
+isCp0 (Special op) = false
+isCp0 Cache = true
+isCp0 (Move op rt rd) = true
+isCp0 (Tlb op) = true
+isCp0 Eret = true
+
+-- a branch, a jump or ERET, which may not stand in a delay slot (N11)
+unfoldable pub isBranch : Instr → Bool
+isBranch (Load op base rt offset) = false
+isBranch (Store op base rt offset) = false
+isBranch (Arithmetic op rs rt rd) = false
+isBranch (ArithmeticImmediate op rs rt immediate) = false
+isBranch (Logic op rs rt rd) = false
+isBranch (LogicImmediate op rs rt immediate) = false
+isBranch (Shift op rt rd sa) = false
+isBranch (ShiftVariable op rs rt rd) = false
+isBranch (Multiply op rs rt) = false
+isBranch (HiLo op rs rd) = false
+isBranch (Branch op rs rt offset) = true
+isBranch (Jump op target) = true
+isBranch (JumpRegister op rs rd) = true
+isBranch (Trap op rs rt) = false
+isBranch (TrapImmediate op rs immediate) = false
+isBranch (Special op) = false
+isBranch Cache = false
+isBranch (Move op rt rd) = false
+isBranch (Tlb op) = false
+isBranch Eret = true
+
+-- CP0 cannot be used: User mode, and CU0 is clear (T21)
+abbrev pub locked : Bool → Bool → Bool
+locked user cu0 = both user (not cu0)
+
+-- an instruction, in the order of the checks: CP0 or CACHE where CP0 is locked; a doubleword instruction in User mode; a branch in a slot (S6, T21, D11, N11, N19)
+unfoldable pub usable : Bool → Bool → Bool → Instr → Ready
+usable user cu0 slot i =
+    pick (both (locked user cu0) (isCp0 i)) (Unusable 0)
+    (pick (both user (isDouble i)) Ready.Reserved
+    (pick (both slot (isBranch i)) InSlot
+    (Go i)))
+
+-- any word, with User mode, CU0 and a pending slot: a code of CP1 or CP2 is unusable, one of COP0 where CP0 is locked, reserved or not (S6, S14, S15, S16)
+unfoldable pub ready : Bool → Bool → Bool → Decoded → Ready
+ready user cu0 slot (Is i) = usable user cu0 slot i
+ready user cu0 slot (Coprocessor unit) = Unusable unit
+ready user cu0 slot ReservedCop0 = pick (locked user cu0) (Unusable 0) Ready.Reserved
+ready user cu0 slot Reserved = Ready.Reserved

@@ -1,0 +1,3 @@
+pub mod Near
+pub mod Effects
+pub mod Step

@@ -1,0 +1,4 @@
+-- Why the functions meet their definitions.
+pub mod Cards
+pub mod Tables
+pub mod Runs

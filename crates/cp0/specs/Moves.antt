@@ -4,6 +4,7 @@ use mathlib.Core.Bool.{Bool, true, false}
 use lib.Dec.{ltb, eqb}
 use Rattle.promise.specs.Pick.{pick, both, either, not}
 use Rattle.promise.specs.Bits.{set?, bits}
+use Rattle.tlb.specs.PageMask.{legalMask}
 use Rattle.cp0.specs.declared.Cp0.{Cp0}
 use Rattle.cp0.specs.declared.Move.{Move}
 use Rattle.cp0.specs.declared.Move.the-variants.{Built, NotBuilt}
@@ -51,7 +52,7 @@ moveWord c n w =
     (pick (eqb n EntryLo0) (set c EntryLo0 (keptEntryLo w))
     (pick (eqb n EntryLo1) (set c EntryLo1 (keptEntryLo w))
     (pick (eqb n PageMask) (set c PageMask w)
-    (pick (eqb n Wired) (set (set c Wired (keptWired w)) Random 47)
+    (pick (eqb n Wired) (set (set c Random 47) Wired (keptWired w))
     (pick (eqb n Count) (set c Count w)
     (pick (eqb n EntryHi) (set c EntryHi (keptEntryHi w))
     (pick (eqb n Compare) (set (set c Compare w) Cause (cleared (c .cause) 15 1))
@@ -77,3 +78,10 @@ builtStatus w =
     (both (eqb (bits w 25 1) 0)
     (both (eqb (bits w 5 3) 0)
     (not (either (eqb (KSU w) 1) (eqb (KSU w) 3)))))
+
+-- a move of the value v to register n: of Status and PageMask some are not built, judged on the low word (N12, T1, T20)
+unfoldable pub checkMove : ℕ → ℕ → Move
+checkMove n v =
+    pick (eqb n Status) (pick (builtStatus (low v)) Built NotBuilt)
+    (pick (eqb n PageMask) (pick (legalMask (low v)) Built NotBuilt)
+    Built)

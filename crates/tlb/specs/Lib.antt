@@ -2,6 +2,7 @@
 pub mod PageMask
 pub mod Slot
 pub mod Match
+pub mod Held
 pub mod Translate
 pub mod Segments
 pub mod Probe

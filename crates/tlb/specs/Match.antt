@@ -1,7 +1,8 @@
 -- Which slots match an address, of all 48.
-use Prim.Native.Nat.{ℕ, zero, suc, _+_, _*_, _/_, _%_, _^_}
+use Prim.Native.Nat.{ℕ, zero, suc, _+_, _*_, _/_, _%_, _^_, _<_}
 use mathlib.Core.Bool.{Bool, true, false}
 use mathlib.Core.List.{List}
+use mathlib.Core.Path.{_≡_}
 use lib.Dec.{eqb}
 use Rattle.promise.specs.Bits.{bits, set?}
 use Rattle.promise.specs.Pick.{both, either}
@@ -51,3 +52,24 @@ seek (suc left) i tlb asid v f = seek left (i + 1) tlb asid v (more (matchesAt t
 -- all 48 slots are looked at (C1)
 unfoldable pub lookup : List ℕ → ℕ → VAddr → Found
 lookup tlb asid v = seek 48 0 tlb asid v Absent
+
+-- two different slots below n match
+pub record Two (matching : ℕ → Bool) (n : ℕ) : Type 0 where
+  pub first : ℕ
+  pub second : ℕ
+  pub apart : first < second
+  pub below : second < n
+  pub first-matches : matching first ≡ true
+  pub second-matches : matching second ≡ true
+
+-- slot i below n matches, and it alone
+pub record Only (matching : ℕ → Bool) (n i : ℕ) : Type 0 where
+  pub below : i < n
+  pub matches-it : matching i ≡ true
+  pub alone : (j : ℕ) → j < n → matching j ≡ true → j ≡ i
+
+-- what a search of n slots tells: none matches, just this one does, or two do
+unfoldable pub Tells : (ℕ → Bool) → ℕ → Found → Type 0
+Tells matching n Absent = (j : ℕ) → j < n → matching j ≡ false
+Tells matching n (One i) = Only matching n i
+Tells matching n Many = Two matching n

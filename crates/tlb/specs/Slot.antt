@@ -27,7 +27,7 @@ abbrev pub page : ℕ → ℕ
 page hi = bits hi 13 19
 
 abbrev pub asidOf : ℕ → ℕ
-asidOf hi = bits hi 0 8
+asidOf hi = hi % 2 ^ 8
 
 abbrev pub globalOf : ℕ → Bool
 globalOf hi = set? hi 12
@@ -51,7 +51,7 @@ cleared mask page = bitAnd page (2 ^ 19 - 1 - run mask)
 
 -- the G of a slot, at bit 12: set where both halves' G, their bit 0, is set (T6)
 unfoldable pub bothGlobal : ℕ → ℕ → ℕ
-bothGlobal lo0 lo1 = pick (both (set? lo0 0) (set? lo1 0)) (2 ^ 12) 0
+bothGlobal lo0 lo1 = pick (both (eqb (lo0 % 2) 1) (eqb (lo1 % 2) 1)) (2 ^ 12) 0
 
 -- frame, C, D and V of EntryLo, without its G (T3, T14)
 abbrev pub withoutG : ℕ → ℕ

@@ -1,5 +1,24 @@
 // Virtual addresses: the map of segments, and the TLB of 48 double entries.
+mod page_mask;
+mod probing;
+mod range;
+mod search;
+mod segments;
+mod slots;
+mod through;
+
 use memory::PAddr;
+pub use page_mask::legal_mask;
+pub use probing::tlbp;
+pub use range::slot_in_range;
+pub use range::tlb_in_range;
+pub use search::lookup;
+pub use segments::translate;
+pub use slots::put_slot;
+pub use slots::read_slot;
+pub use slots::slot_at;
+pub use slots::stored;
+pub use through::mapped;
 
 // A virtual address.
 pub struct VAddr(pub u64);

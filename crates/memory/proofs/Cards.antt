@@ -6,7 +6,8 @@ use Rattle.memory.specs.declared.PAddr.{PAddr}
 use Rattle.memory.specs.declared.Eight.the-variants.{Ram, Rom, Missing}
 use Rattle.memory.specs.Bytes.{eightOf, withBytes}
 use Rattle.memory.specs.Memory.{part, read}
-use Rattle.memory.specs.Loads.{extend, span, lb, lbu}
+use Rattle.memory.specs.Loads.{span, lb, lbu}
+use Rattle.word.specs.Extend.{extend}
 use Rattle.memory.specs.Unaligned.{lwl}
 
 abbrev at : ℕ → PAddr

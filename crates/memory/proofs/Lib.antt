@@ -2,3 +2,4 @@
 pub mod Cards
 pub mod Tables
 pub mod Runs
+pub mod Spans

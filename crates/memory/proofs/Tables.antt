@@ -6,7 +6,8 @@ use mathlib.Core.List.{List, [], _∷_, map}
 use Rattle.memory.specs.declared.PAddr.{PAddr}
 use Rattle.memory.specs.declared.Store.{Store}
 use Rattle.memory.specs.Bytes.{byte, bytesOf, eightOf, withBytes}
-use Rattle.memory.specs.Loads.{extend, span}
+use Rattle.memory.specs.Loads.{span}
+use Rattle.word.specs.Extend.{extend}
 use Rattle.memory.specs.Unaligned.{lwl, lwr, ldl, ldr}
 use Rattle.memory.specs.Stores.{putBytes, swl, swr, sdl, sdr}
 

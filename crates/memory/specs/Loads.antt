@@ -1,12 +1,7 @@
 -- Loads: what a register receives of the eight bytes that hold the address. One rule over the size in bytes (A9).
 use Prim.Native.Nat.{ℕ, _+_, _-_, _*_, _/_, _%_, _^_}
-use lib.Dec.{ltb}
-use Rattle.promise.specs.Pick.{pick}
+use Rattle.word.specs.Word.{extendByte, extendHalf, extend}
 use Rattle.memory.specs.declared.PAddr.{PAddr}
-
--- the sign extension of the low `bits` bits to 64
-unfoldable pub extend : ℕ → ℕ → ℕ
-extend bits x = pick (ltb (x % 2 ^ bits) (2 ^ (bits - 1))) (x % 2 ^ bits) (x % 2 ^ bits + (2 ^ 64 - 2 ^ bits))
 
 -- of the eight bytes n, those `size` that follow the first `at` of them, as one number (C3)
 unfoldable pub span : ℕ → ℕ → ℕ → ℕ
@@ -18,19 +13,19 @@ field size n p = span size n (p .0 % 8 / size * size)
 
 -- LB, LH and LW extend the sign, LBU, LHU and LWU do not, LD has no room to (C4)
 unfoldable pub lb : ℕ → PAddr → ℕ
-lb n p = extend 8 (field 1 n p)
+lb n p = extendByte (field 1 n p)
 
 unfoldable pub lbu : ℕ → PAddr → ℕ
 lbu n p = field 1 n p
 
 unfoldable pub lh : ℕ → PAddr → ℕ
-lh n p = extend 16 (field 2 n p)
+lh n p = extendHalf (field 2 n p)
 
 unfoldable pub lhu : ℕ → PAddr → ℕ
 lhu n p = field 2 n p
 
 unfoldable pub lw : ℕ → PAddr → ℕ
-lw n p = extend 32 (field 4 n p)
+lw n p = extend (field 4 n p)
 
 unfoldable pub lwu : ℕ → PAddr → ℕ
 lwu n p = field 4 n p

@@ -2,9 +2,10 @@
 use Prim.Native.Nat.{ℕ, _+_, _-_, _*_, _/_, _%_, _^_}
 use lib.Dec.{eqb}
 use Rattle.promise.specs.Pick.{pick}
+use Rattle.word.specs.Word.{extend}
 use Rattle.memory.specs.declared.PAddr.{PAddr}
 use Rattle.memory.specs.Bytes.{withBytes}
-use Rattle.memory.specs.Loads.{extend, field}
+use Rattle.memory.specs.Loads.{field}
 
 -- left: the bytes from p to the end of the aligned `size` go to the top of the register's low `size` bytes (C4)
 abbrev pub left : ℕ → ℕ → PAddr → ℕ → ℕ
@@ -16,11 +17,11 @@ right size n p old = withBytes old 0 (p .0 % size + 1) (field size n p / 2 ^ (8 
 
 -- LWL extends the sign from bit 31 (A12)
 unfoldable pub lwl : ℕ → PAddr → ℕ → ℕ
-lwl n p old = extend 32 (left 4 n p old)
+lwl n p old = extend (left 4 n p old)
 
 -- LWR does so where it is full; a partial one keeps the upper 32 bits (A12, house)
 unfoldable pub lwr : ℕ → PAddr → ℕ → ℕ
-lwr n p old = pick (eqb (p .0 % 4) 3) (extend 32 (right 4 n p old)) (right 4 n p old)
+lwr n p old = pick (eqb (p .0 % 4) 3) (extend (right 4 n p old)) (right 4 n p old)
 
 unfoldable pub ldl : ℕ → PAddr → ℕ → ℕ
 ldl n p old = left 8 n p old

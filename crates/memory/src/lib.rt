@@ -5,9 +5,14 @@ ghost use lib.ListN.{length};
 ghost use Rattle.memory.specs.Bytes as B;
 ghost use Rattle.memory.specs.Memory as M;
 
+mod loads;
 mod stores;
 mod unaligned;
 
+pub use loads::lbu;
+pub use loads::ld;
+pub use loads::lhu;
+pub use loads::lwu;
 pub use stores::put_bytes;
 pub use stores::sb;
 pub use stores::sd;
@@ -17,6 +22,8 @@ pub use stores::sh;
 pub use stores::sw;
 pub use stores::swl;
 pub use stores::swr;
+pub use unaligned::ldl;
+pub use unaligned::ldr;
 
 // A physical address; 36 bits are used.
 pub struct PAddr(pub u64);

@@ -1,9 +1,11 @@
 // Unaligned loads: the merge, in the byte lanes that the manual draws.
+use crate::PAddr;
 use crate::byte;
 use crate::eight_of;
 ghost use mathlib.Core.Path.{_≡_};
 ghost use Prim.Native.Nat.{ℕ, _+_, _<_, _≤_};
 ghost use Rattle.memory.specs.Bytes as B;
+ghost use Rattle.memory.specs.Unaligned as U;
 
 // Byte k of `old` with `count` bytes, above the `low` lowest, replaced by those of `new`.
 fn lane(old: u64, low: u64, count: u64, new: u64, k: u64) -> u8
@@ -35,4 +37,20 @@ fn merge(old: u64, low: u64, count: u64, new: u64) -> u64
         lane(old, low, count, new, 0),
     ];
     eight_of(&lanes)
+}
+
+// LDL: the bytes from the address to the end of the aligned doubleword, on top of the register.
+pub fn ldl(n: u64, p: PAddr, old: u64) -> u64
+    ensures { λ r. ⌜ r ≡ U.ldl n p old ⌝ }
+{
+    let b = p.0 % 8;
+    merge(old, b, 8 - b, n)
+}
+
+// LDR: the bytes from the start of the aligned doubleword to the address, at the bottom of the register.
+pub fn ldr(n: u64, p: PAddr, old: u64) -> u64
+    ensures { λ r. ⌜ r ≡ U.ldr n p old ⌝ }
+{
+    let b = p.0 % 8;
+    merge(old, 0, b + 1, n >> (8 * (7 - b)))
 }

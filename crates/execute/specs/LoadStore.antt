@@ -1,14 +1,29 @@
--- Loads and stores: what alignment they ask for, what a load writes of the eight bytes that memory gives, and which bytes a store sends out.
-use Prim.Native.Nat.{ℕ}
+-- Loads and stores: their address and its alignment, what a load writes of the eight bytes that memory gives, and which bytes a store sends out.
+use Prim.Native.Nat.{ℕ, _+_, _%_, _^_}
+use Rattle.word.specs.Word.{extendImmediate}
+use Rattle.tlb.specs.declared.VAddr.{VAddr}
 use Rattle.memory.specs.Loads as memory
 use Rattle.memory.specs.Unaligned as unaligned
 use Rattle.memory.specs.Stores as stores
 use Rattle.memory.specs.declared.PAddr.{PAddr}
 use Rattle.memory.specs.declared.Store.{Store}
+use Rattle.execute.specs.declared.Act.{Act}
+use Rattle.execute.specs.declared.Act.the-variants as act
 use Rattle.decode.specs.declared.LoadOp.{LoadOp}
 use Rattle.decode.specs.declared.LoadOp.the-variants.{LB, LBU, LH, LHU, LW, LWU, LD, LWL, LWR, LDL, LDR, LL, LLD}
 use Rattle.decode.specs.declared.StoreOp.{StoreOp}
 use Rattle.decode.specs.declared.StoreOp.the-variants.{SB, SH, SW, SD, SWL, SWR, SDL, SDR, SC, SCD}
+
+-- an effective address: the wrapping sum of the base and the sign-extended offset (D2)
+unfoldable pub effective : ℕ → ℕ → VAddr
+effective base offset = record { 0 = (base + extendImmediate offset) % 2 ^ 64 }
+
+-- A load asks for register rt to be loaded from its address, a store for it to be stored there.
+unfoldable pub load : LoadOp → ℕ → ℕ → ℕ → Act
+load op rt base offset = act.Load op rt (effective base offset)
+
+unfoldable pub store : StoreOp → ℕ → ℕ → ℕ → Act
+store op rt base offset = act.Store op rt (effective base offset)
 
 -- A load's address is a multiple of this; the unaligned forms take any (S7).
 unfoldable pub loadAlign : LoadOp → ℕ

@@ -8,34 +8,19 @@ use tlb::VAddr;
 // All that an instruction does, or asks for. Where a register is named, 0 means that none is written.
 pub enum Act {
     Nothing,
-    Write {
-        reg: usize,
-        value: u64,
-    },
-    HiLo {
-        hi: u64,
-        lo: u64,
-    },
+    Write { reg: usize, value: u64 },
+    HiLo { hi: u64, lo: u64 },
     // The delay slot follows, then `to`; `link` receives the address of the instruction after the slot.
-    Branch {
-        to: u64,
-        link: usize,
-    },
+    Branch { to: u64, link: usize },
     // A likely branch that is not taken skips its slot.
-    Skip {
-        link: usize,
-    },
-    Load {
-        op: LoadOp,
-        reg: usize,
-        at: VAddr,
-    },
-    Store {
-        op: StoreOp,
-        reg: usize,
-        at: VAddr,
-    },
+    Skip { link: usize },
+    Load { op: LoadOp, reg: usize, at: VAddr },
+    Store { op: StoreOp, reg: usize, at: VAddr },
     Raise(Exception),
+}
+
+// What a CP0 instruction asks for.
+pub enum Command {
     // A move from the CP0 register `number`: the doubleword, or the low word of it, sign-extended.
     MoveFrom {
         reg: usize,
@@ -49,4 +34,10 @@ pub enum Act {
     },
     Tlb(TlbOp),
     Eret,
+}
+
+// What an instruction comes to: an act that CP0 and the TLB have no part in, or a command to them.
+pub enum Executed {
+    Plain(Act),
+    Command(Command),
 }

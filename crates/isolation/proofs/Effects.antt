@@ -12,7 +12,6 @@ use Rattle.memory.specs.declared.Eight.{Eight}
 use Rattle.memory.specs.declared.Eight.the-variants.{Ram, Rom, Missing}
 use Rattle.memory.specs.declared.Store.{Store}
 use Rattle.memory.specs.declared.Store.the-variants.{Nowhere, Write}
-use Rattle.memory.specs.Stores as stores
 use Rattle.tlb.specs.declared.VAddr.{VAddr}
 use Rattle.tlb.specs.declared.Half.{Half}
 use Rattle.tlb.specs.declared.SlotWrite.{SlotWrite}
@@ -215,7 +214,7 @@ module _ (cpu : Cpu) (cp0 : Cp0) (regs tlb : List ℕ) (u : user (cp0 .status) �
 
   -- what a store sends out stays in the eight bytes of its address
   out-confined : (op : StoreOp) (p : PAddr) (value : ℕ) → ReachedDirty tlb (asidOf (cp0 .entryhi)) (p .0) → Confined tlb (asidOf (cp0 .entryhi)) (goesOut op p value)
-  unfolding goesOut stores.sb stores.sh stores.sw stores.sd stores.swl stores.swr stores.sdl stores.sdr
+  unfolding goesOut
   out-confined store.SB p value d = within d
   out-confined store.SH p value d = within d
   out-confined store.SW p value d = within d

@@ -1,3 +1,4 @@
 pub mod Near
 pub mod Effects
 pub mod Step
+pub mod Isolation

@@ -25,7 +25,7 @@ use Rattle.cp0.specs.declared.Exception.{Exception}
 use Rattle.cp0.specs.declared.Bad.{Bad}
 use Rattle.cp0.specs.declared.Bad.the-variants as bad
 use Rattle.cp0.specs.Registers.{set, linked}
-use Rattle.cp0.specs.Status.{CU0, user}
+use Rattle.cp0.specs.Status.{CU0, KSU, user}
 use Rattle.cp0.specs.Exceptions.{addressed, entered, told}
 use Rattle.cp0.specs.Tick.{ended}
 use Rattle.effect.specs.declared.Turn.{Turn}
@@ -71,13 +71,11 @@ lands-within ram to size e = go (inRam ram to) refl (leb 1 size) refl (leb (to .
     go true p true q true r = leb-true _ _ r
 
 stored-kept : (tlb : List ℕ) (a : ℕ) (ram : List ℕ) (s : Store) → Confined tlb a s → OnlyDirtyChanged tlb a ram (putBytes ram s)
+unfolding putBytes
 stored-kept tlb a ram s c = record { long = length-put ram s; same = λ k n. unchanged s c k n }
   where
     unchanged : (s : Store) → Confined tlb a s → (k : ℕ) → (ReachedDirty tlb a k → ⊥) → getD (putBytes ram s) k 0 ≡ getD ram k 0
-    unchanged Nowhere nowhere k n = kept
-      where
-        kept : getD (putBytes ram Nowhere) k 0 ≡ getD ram k 0
-        kept = refl
+    unchanged Nowhere nowhere k n = refl
     unchanged (Write to size value) (within d) k n = go (lands ram to size) refl
       where
         go : (b : Bool) → lands ram to size ≡ b → getD (putBytes ram (Write to size value)) k 0 ≡ getD ram k 0
@@ -91,10 +89,94 @@ stored-kept tlb a ram s c = record { long = length-put ram s; same = λ k n. unc
 -- after an exception the machine is not in User mode
 exl-not-user : (s : ℕ) → user (s / 2 ^ 2 * 2 ^ 2 + 1 * 2 ^ 1 + s % 2 ^ 1) ≡ false
 unfolding user
-exl-not-user s = let e : (s / 2 ^ 2 * 2 ^ 2 + 1 * 2 ^ 1 + s % 2 ^ 1) / 2 ^ 1 % 2 ≡ 1 = omega arith in rw (eq-eqb _ 1 e)
+exl-not-user s = let e : (s / 2 ^ 2 * 2 ^ 2 + 1 * 2 ^ 1 + s % 2 ^ 1) / 2 ^ 1 % 2 ≡ 1 = omega arith in rw (eq-eqb _ 1 e) (go (eqb (KSU (s / 2 ^ 2 * 2 ^ 2 + 1 * 2 ^ 1 + s % 2 ^ 1)) 2))
+  where
+    go : (b : Bool) → pick b false false ≡ false
+    go true = refl
+    go false = refl
 
 addressed-status : (c : Cp0) (b : Bad) → addressed c b .status ≡ c .status
 unfolding addressed set
 addressed-status c bad.Nothing = refl
 addressed-status c (bad.Address v) = refl
 addressed-status c (bad.Page v) = refl
+
+entered-status : (c : Cp0) (pc : ℕ) (slot : Bool) (e : Exception) → entered c pc slot e .status ≡ c .status / 2 ^ 2 * 2 ^ 2 + 1 * 2 ^ 1 + c .status % 2 ^ 1
+unfolding entered set
+entered-status c pc slot e = addressed-status _ (told e .bad) ∙ refl
+
+ended-status : (w : Bool) (c : Cp0) → ended w c .status ≡ c .status
+unfolding ended set
+ended-status w c = refl
+
+ended-entryhi : (w : Bool) (c : Cp0) → ended w c .entryhi ≡ c .entryhi
+unfolding ended set
+ended-entryhi w c = refl
+
+linked-status : (c : Cp0) (p : PAddr) → linked c p .status ≡ c .status
+unfolding linked set
+linked-status c p = refl
+
+linked-entryhi : (c : Cp0) (p : PAddr) → linked c p .entryhi ≡ c .entryhi
+unfolding linked set
+linked-entryhi c p = refl
+
+-- a calm turn that ends in User mode leaves Status and EntryHi
+record Stays (c c′ : Cp0) : Type 0 where
+  pub status : c′ .status ≡ c .status
+  pub entryhi : c′ .entryhi ≡ c .entryhi
+
+calm-stays : (pc : ℕ) (slot : Bool) (c : Cp0) (t : Turn) → Calm t → user (cp0After pc slot c t .status) ≡ true → Stays c (cp0After pc slot c t)
+unfolding cp0After
+calm-stays pc slot c turn.Next next u = record { status = ended-status false c; entryhi = ended-entryhi false c }
+calm-stays pc slot c (turn.Branch to) branch u = record { status = ended-status false c; entryhi = ended-entryhi false c }
+calm-stays pc slot c turn.Skip skip u = record { status = ended-status false c; entryhi = ended-entryhi false c }
+calm-stays pc slot c (turn.HiLo hi lo) hilo u = record { status = ended-status false c; entryhi = ended-entryhi false c }
+calm-stays pc slot c (turn.Link p) link u =
+    record { status = ended-status false (linked c p) ∙ linked-status c p; entryhi = ended-entryhi false (linked c p) ∙ linked-entryhi c p }
+calm-stays pc slot c (turn.Enter e) enter u =
+    let s = ended-status false (entered c pc slot e) ∙ entered-status c pc slot e in
+    let f : user (ended false (entered c pc slot e) .status) ≡ false = rw s (exl-not-user (c .status)) in
+    let z : _≡_ {A = ℕ} 0 1 = cc in
+    absurd (omega arith)
+calm-stays pc slot c turn.Stay stay u = record { status = refl; entryhi = refl }
+
+-- ---- a step
+
+kept-slot : (tlb : List ℕ) {s : SlotWrite} → s ≡ Keep → putSlot tlb s ≡ tlb
+unfolding putSlot
+kept-slot tlb e = rw e
+
+-- what two outcomes have in common that a User program cannot tell apart
+pub record SameOut (tlb : List ℕ) (a : ℕ) (o₁ o₂ : Out) : Type 0 where
+  pub machine : o₁ .machine ≡ o₂ .machine
+  pub stop : o₁ .stop ≡ o₂ .stop
+  pub ram : SameReached tlb a 0 (o₁ .ram) (o₂ .ram)
+
+apply-same : {tlb : List ℕ} {a : ℕ} {ram₁ ram₂ : List ℕ} (m : Machine) (e : Effect) → SameReached tlb a 0 ram₁ ram₂ → SameOut tlb a (apply m ram₁ e) (apply m ram₂ e)
+unfolding apply
+apply-same m e A = record { machine = refl; stop = refl; ram = stored-same (e .store) A }
+
+module _ (lines : ℕ) (m : Machine) (u : inUser m ≡ true) where
+  pub step-same : (ram₁ ram₂ rom₁ rom₂ : List ℕ) → SameReached (m .tlb) (asid m) 0 ram₁ ram₂ → SameReached (m .tlb) (asid m) romBase rom₁ rom₂
+      → SameOut (m .tlb) (asid m) (stepOf m ram₁ rom₁ lines) (stepOf m ram₂ rom₂ lines)
+  unfolding stepOf
+  step-same ram₁ ram₂ rom₁ rom₂ A B =
+      rw (effect-same (m .cpu) (m .cp0) (m .regs) (m .tlb) u (read ram₁ rom₁) (read ram₂ rom₂) (reads-same A B) lines)
+      (apply-same m (effectOf (m .cpu) (m .cp0) (m .regs) (m .tlb) (read ram₂ rom₂) lines) A)
+
+  module _ (l : CU0 (m .cp0 .status) ≡ false) (ram rom : List ℕ) where
+    good : Good (m .cp0) (m .tlb) (effectOf (m .cpu) (m .cp0) (m .regs) (m .tlb) (read ram rom) lines)
+    good = effect-good (m .cpu) (m .cp0) (m .regs) (m .tlb) u l (read ram rom) lines
+
+    pub step-kept : OnlyDirtyChanged (m .tlb) (asid m) ram (stepOf m ram rom lines .ram)
+    unfolding stepOf apply
+    step-kept = stored-kept (m .tlb) (asid m) ram _ (good .store)
+
+    -- while it is in User mode the TLB, the ASID and CU0 stay
+    pub step-stays : inUser (stepOf m ram rom lines .machine) ≡ true
+        → (stepOf m ram rom lines .machine .tlb ≡ m .tlb) × (asid (stepOf m ram rom lines .machine) ≡ asid m) × (CU0 (stepOf m ram rom lines .machine .cp0 .status) ≡ false)
+    unfolding stepOf apply
+    step-stays v =
+        let s = calm-stays (m .cpu .pc) (m .cpu .slot) (m .cp0) _ (good .turn) v in
+        (kept-slot (m .tlb) (good .slot), ap asidOf (s .entryhi), ap CU0 (s .status) ∙ l)

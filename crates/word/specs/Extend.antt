@@ -17,14 +17,14 @@ unsigned w x = pos (low w x)
 abbrev pub signed : Width → ℕ → ℤ
 signed w x = toZ w (low w x)
 
--- a number cut to the width: its remainder by 2^w, from 0 up also below zero (A2)
-abbrev pub wrapped : Width → ℤ → ℕ
-wrapped w (pos n) = n % 2 ^ bits w
-wrapped w (negsuc n) = 2 ^ bits w - suc (n % 2 ^ bits w)
+-- a number cut to m: its remainder by m, from 0 up also below zero
+abbrev pub cut : ℕ → ℤ → ℕ
+cut m (pos n) = n % m
+cut m (negsuc n) = m - suc (n % m)
 
--- the register that holds a number: it is cut to the width, and the whole register is the same signed number (A1)
+-- the register that holds a number: it is cut to the width, and the whole register is the same signed number (A1, A2)
 unfoldable pub register : Width → ℤ → ℕ
-register w z = ofZ w64 (toZ w (wrapped w z))
+register w z = ofZ w64 (toZ w (cut (2 ^ bits w) z))
 
 -- the low bits of a register, sign-extended (A1)
 unfoldable pub extend : Width → ℕ → ℕ

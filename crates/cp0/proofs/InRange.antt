@@ -59,7 +59,8 @@ module _ (c : Cp0) where
         status-in = k2;
         cause-in = eqb-true _ _ k3;
         config-in = k4;
-        prid-in = eqb-true _ _ k5 }
+        prid-in = eqb-true _ _ k5;
+      }
 
   pub range-made : InRange c → cp0InRange c ≡ true
   unfolding cp0InRange entriesInRange controlInRange
@@ -114,4 +115,5 @@ set-in c n v m r h =
       status-in = field (λ (x : ℕ). statusInRange x ≡ true) n Status v (c .status) m (λ p. p) (h .status-in);
       cause-in = field (λ (x : ℕ). keptCause x ≡ x) n Cause v (c .cause) m (eqb-true _ _) (h .cause-in);
       config-in = field (λ (x : ℕ). configInRange x ≡ true) n Config v (c .config) m (λ p. p) (h .config-in);
-      prid-in = field (λ (x : ℕ). x ≡ 0x0400) n PRId v (c .prid) m (eqb-true _ _) (h .prid-in) }
+      prid-in = field (λ (x : ℕ). x ≡ 0x0400) n PRId v (c .prid) m (eqb-true _ _) (h .prid-in);
+    }

@@ -3,7 +3,7 @@ use Prim.Native.Nat.{ℕ, zero, suc, _+_, _*_}
 use mathlib.Core.Bool.{Bool, true, false}
 use mathlib.Core.List.{List, [], _∷_}
 use lib.Dec.{eqb}
-use lib.ListN.{getD}
+use lib.ListN.{getD, replicate}
 use Rattle.promise.specs.Pick.{pick, both, either}
 use Rattle.tlb.specs.Range.{tlbInRange}
 use Rattle.cp0.specs.declared.Cp0.{Cp0}
@@ -16,11 +16,6 @@ use Rattle.card.specs.declared.Machine.{Machine}
 abbrev pub machine : Cpu → Cp0 → List ℕ → List ℕ → Machine
 machine c z r t = record { cpu = c; cp0 = z; regs = r; tlb = t }
 
--- so many zeros
-unfoldable pub zeros : ℕ → List ℕ
-zeros zero = []
-zeros (suc n) = 0 ∷ zeros n
-
 -- n slots from slot i on: slot i holds page 80000000 + i × 2000h, not valid (T29)
 unfoldable pub freshSlots : ℕ → ℕ → List ℕ
 freshSlots zero i = []
@@ -28,7 +23,7 @@ freshSlots (suc n) i = 0 ∷ (0x80000000 + i * 0x2000) ∷ 0 ∷ 0 ∷ freshSlot
 
 -- PC BFC00000 sign-extended, CP0 as its rules say, all else 0, and the 48 slots (T29)
 unfoldable pub fresh : Machine
-fresh = machine (cpuOf 0xffffffffbfc00000 false 0 0 0 false) cp0.fresh (zeros 32) (freshSlots 48 0)
+fresh = machine (cpuOf 0xffffffffbfc00000 false 0 0 0 false) cp0.fresh (replicate 32 0) (freshSlots 48 0)
 
 -- no target without a slot (N23)
 unfoldable pub cpuInRange : Cpu → Bool

@@ -1,6 +1,10 @@
 // The card: the machine, one step of it, and a run.
+mod range;
+
 use cp0::Cp0;
 use effect::Cpu;
+pub use range::fresh;
+pub use range::in_range;
 
 // The whole machine but for its memory; `tlb` holds 48 slots of four numbers.
 pub struct Machine {

@@ -1,11 +1,21 @@
 -- What a register keeps of a value, it keeps of what a move, an exception, ERET or the timer makes of it.
 use Prim.Native.Nat.{ℕ, _+_, _*_, _/_, _%_, _^_, _<_}
-use mathlib.Core.Path.{_≡_, refl, sym, subst}
+use mathlib.Core.Path.{_≡_, sym, subst, _∙_}
+use mathlib.Core.Bool.{true, false}
+use lib.Dec.{eqb}
+use borrow.Author.Tests.{eq-eqb, ne-eqb}
 use native.Mathlib.Omega.{arith}
 use Rattle.promise.specs.Bits.{bits}
 use Rattle.cp0.specs.Registers.{only, replaced, cleared, keptIndex, keptEntryLo, keptWired, keptEntryHi, keptContext, keptStatus, keptCause}
 use Rattle.cp0.specs.Exceptions.{causeAfter}
 use Rattle.cp0.proofs.Fields.{causeOf, status-whole, five-changed, cause-whole, code-replaced, ip-replaced, ip7-replaced, ip7-cleared, ce-replaced, bd-replaced}
+
+-- a test of what a register keeps, made on a call's result
+pub is-kept : (r kept x : ℕ) → r ≡ kept → r ≡ x → eqb kept x ≡ true
+is-kept r kept x p q = eq-eqb kept x (sym p ∙ q)
+
+pub not-kept : (r kept x : ℕ) → r ≡ kept → (r ≡ x → ⊥) → eqb kept x ≡ false
+not-kept r kept x p q = ne-eqb kept x (λ e. q (p ∙ e))
 
 pub index-kept : (w : ℕ) → keptIndex (keptIndex w) ≡ keptIndex w
 index-kept w = omega arith

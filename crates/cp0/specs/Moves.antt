@@ -1,9 +1,10 @@
 -- Moves from and to the registers, and the moves that are not built.
 use Prim.Native.Nat.{ℕ, _+_, _*_, _/_, _%_, _^_}
 use mathlib.Core.Bool.{Bool, true, false}
-use lib.Dec.{ltb, eqb}
+use lib.Dec.{eqb}
 use Rattle.promise.specs.Pick.{pick, both, either, not}
 use Rattle.promise.specs.Bits.{set?, bits}
+use Rattle.word.specs.Word.{extend}
 use Rattle.tlb.specs.PageMask.{legalMask}
 use Rattle.cp0.specs.declared.Cp0.{Cp0}
 use Rattle.cp0.specs.declared.Move.{Move}
@@ -11,13 +12,9 @@ use Rattle.cp0.specs.declared.Move.the-variants.{Built, NotBuilt}
 use Rattle.cp0.specs.Registers.{Index, Random, EntryLo0, EntryLo1, Context, PageMask, Wired, BadVAddr, Count, EntryHi, Compare, Status, Cause, EPC, PRId, Config, LLAddr, TagLo, TagHi, ErrorEPC, set, low, only, replaced, cleared, keptIndex, keptEntryLo, keptWired, keptEntryHi, keptStatus}
 use Rattle.cp0.specs.Status.{KSU, causeRead}
 
--- the sign extension of a word
-abbrev pub extended : ℕ → ℕ
-extended x = pick (ltb x (2 ^ 31)) x (x + 0xffffffff00000000)
-
 -- the 32-bit register n; one that is not kept reads 0, and Cause's IP6..2 read as the lines (T12, T13, T18)
-unfoldable pub word : Cp0 → ℕ → ℕ → ℕ
-word c lines n =
+unfoldable pub wordOf : Cp0 → ℕ → ℕ → ℕ
+wordOf c lines n =
     pick (eqb n Index) (c .index)
     (pick (eqb n Random) (c .random)
     (pick (eqb n EntryLo0) (c .entrylo0)
@@ -43,7 +40,7 @@ moveOut c lines n =
     (pick (eqb n BadVAddr) (c .badvaddr)
     (pick (eqb n EPC) (c .epc)
     (pick (eqb n ErrorEPC) (c .errorepc)
-    (extended (word c lines n)))))
+    (extend (wordOf c lines n)))))
 
 -- a move of the word w to the 32-bit register n, and what is kept of it (T12, T14, T16, T17, T18, T20); Wired sets Random to 47 (S10), Compare clears IP7 (S11)
 unfoldable pub moveWord : Cp0 → ℕ → ℕ → Cp0

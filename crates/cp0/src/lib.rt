@@ -1,6 +1,7 @@
 // CP0: the kept registers, moves to and from them, the mode, exceptions, and the end of a step.
 mod exceptions;
 mod moves;
+mod range;
 mod registers;
 mod status;
 mod tick;
@@ -9,8 +10,10 @@ pub use exceptions::entered;
 pub use exceptions::return_to;
 pub use exceptions::returned;
 pub use exceptions::vector;
+pub use moves::check_move;
 pub use moves::move_in;
 pub use moves::move_out;
+pub use range::cp0_in_range;
 pub use registers::fresh_cp0;
 pub use registers::linked;
 pub use registers::probed;

@@ -2,6 +2,7 @@
 ghost use mathlib.Core.Path.{_≡_};
 ghost use Rattle.cp0.specs.Moves as M;
 use crate::Cp0;
+use crate::Move;
 use crate::registers::kept_entryhi;
 use crate::registers::kept_entrylo;
 use crate::registers::kept_index;
@@ -11,19 +12,9 @@ use crate::registers::low;
 use crate::registers::wide;
 use crate::status::cause_read;
 
-// A word, sign-extended.
-fn extended(x: u32) -> u64
-    ensures { λ r. ⌜ r ≡ M.extended x ⌝ }
-{
-    if x < 0x8000_0000 {
-        return wide(x);
-    }
-    wide(x) + 0xffff_ffff_0000_0000
-}
-
 // A 32-bit register by its number; one that is not kept reads 0.
-fn word(cp0: Cp0, lines: u8, number: usize) -> u32
-    ensures { λ r. ⌜ r ≡ M.word cp0 lines number ⌝ }
+fn word_of(cp0: Cp0, lines: u8, number: usize) -> u32
+    ensures { λ r. ⌜ r ≡ M.wordOf cp0 lines number ⌝ }
 {
     match number {
         0 => cp0.index,
@@ -55,7 +46,7 @@ pub fn move_out(cp0: Cp0, lines: u8, number: usize) -> u64
         8 => cp0.badvaddr,
         14 => cp0.epc,
         30 => cp0.errorepc,
-        _ => extended(word(cp0, lines, number)),
+        _ => word::extend(wide(word_of(cp0, lines, number))),
     }
 }
 
@@ -144,4 +135,47 @@ pub fn move_in(cp0: Cp0, number: usize, value: u64) -> Cp0
         }
         _ => move_word(cp0, number, low(value)),
     }
+}
+
+// Whether a Status value is built.
+pub fn built_status(w: u32) -> bool
+    ensures { λ r. ⌜ r ≡ M.builtStatus w ⌝ }
+{
+    if w / 0x2000_0000 % 8 != 0 {
+        return false;
+    }
+    if w / 0x200_0000 % 2 != 0 {
+        return false;
+    }
+    if w / 32 % 8 != 0 {
+        return false;
+    }
+    let ksu = w / 8 % 4;
+    if ksu == 1 {
+        return false;
+    }
+    if ksu == 3 {
+        return false;
+    }
+    true
+}
+
+// Whether a move's value is built, by its low word.
+pub fn check_move(number: usize, value: u64) -> Move
+    ensures { λ r. ⌜ r ≡ M.checkMove number value ⌝ }
+{
+    let w = low(value);
+    if number == 12 {
+        if built_status(w) {
+            return Move::Built;
+        }
+        return Move::NotBuilt;
+    }
+    if number == 5 {
+        if tlb::legal_mask(wide(w)) {
+            return Move::Built;
+        }
+        return Move::NotBuilt;
+    }
+    Move::Built
 }

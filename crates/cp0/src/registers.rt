@@ -54,6 +54,24 @@ pub fn kept_status(x: u32) -> u32
     x / 0x1000_0000 % 2 * 0x1000_0000 + x / 0x40_0000 % 2 * 0x40_0000 + x / 256 % 256 * 256 + x % 32
 }
 
+// Context's bits 63..4.
+pub fn kept_context(x: u64) -> u64
+    ensures { λ r. ⌜ r ≡ R.keptContext x ⌝ }
+{
+    x / 16 % 0x1000_0000_0000_0000 * 16
+}
+
+// Cause's BD, CE, IP7, IP1..0 and ExcCode.
+pub fn kept_cause(x: u32) -> u32
+    ensures { λ r. ⌜ r ≡ R.keptCause x ⌝ }
+{
+    x / 0x8000_0000 % 2 * 0x8000_0000
+        + x / 0x1000_0000 % 4 * 0x1000_0000
+        + x / 0x8000 % 2 * 0x8000
+        + x / 256 % 4 * 256
+        + x / 4 % 32 * 4
+}
+
 // LL leaves the physical address.
 pub fn linked(cp0: Cp0, p: PAddr) -> Cp0
     ensures { λ r. ⌜ r ≡ R.linked cp0 p ⌝ }

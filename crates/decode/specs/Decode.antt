@@ -14,31 +14,31 @@ use Rattle.decode.specs.Maps.{Entry, Major, Maps, mips3}
 use Rattle.decode.specs.Maps.Major.{SPECIAL, REGIMM, own}
 use Rattle.decode.specs.Maps.Entry.{reserved, COP0, CP1, CP2, CACHE, load, store, arithmetic, arithmeticI, logic, logicI, shift, shiftV, multiply, hiLo, branch, jump, jumpR, trap, trapI, special}
 
--- a COP0 word with bit 25 clear: a move by rs; bits 10..0 are not looked at, any other rs is reserved (S16, S17; house)
-unfoldable pub move : ℕ → Decoded
-move w =
-    pick (eqb (rs w) 0) (Is (Move MFC0 (rt w) (rd w)))
-    (pick (eqb (rs w) 1) (Is (Move DMFC0 (rt w) (rd w)))
-    (pick (eqb (rs w) 4) (Is (Move MTC0 (rt w) (rd w)))
-    (pick (eqb (rs w) 5) (Is (Move DMTC0 (rt w) (rd w)))
+-- a COP0 word with bit 25 clear, by its fields rs, rt and rd: a move by rs, any other rs reserved; bits 10..0 are not looked at (S16, S17; house)
+unfoldable pub move : ℕ → ℕ → ℕ → Decoded
+move rs rt rd =
+    pick (eqb rs 0) (Is (Move MFC0 rt rd))
+    (pick (eqb rs 1) (Is (Move DMFC0 rt rd))
+    (pick (eqb rs 4) (Is (Move MTC0 rt rd))
+    (pick (eqb rs 5) (Is (Move DMTC0 rt rd))
     ReservedCop0)))
 
--- a COP0 word with bit 25 set: an operation by its function code; bits 24..6 are not looked at, any other code is reserved (S16, S17; house)
+-- a COP0 word with bit 25 set, by its function code: a TLB operation or ERET, any other code reserved; bits 24..6 are not looked at (S16, S17; house)
 unfoldable pub operation : ℕ → Decoded
-operation w =
-    pick (eqb (funct w) 0x01) (Is (Tlb TLBR))
-    (pick (eqb (funct w) 0x02) (Is (Tlb TLBWI))
-    (pick (eqb (funct w) 0x06) (Is (Tlb TLBWR))
-    (pick (eqb (funct w) 0x08) (Is (Tlb TLBP))
-    (pick (eqb (funct w) 0x18) (Is Eret)
+operation funct =
+    pick (eqb funct 0x01) (Is (Tlb TLBR))
+    (pick (eqb funct 0x02) (Is (Tlb TLBWI))
+    (pick (eqb funct 0x06) (Is (Tlb TLBWR))
+    (pick (eqb funct 0x08) (Is (Tlb TLBP))
+    (pick (eqb funct 0x18) (Is Eret)
     ReservedCop0))))
 
 -- a COP0 word: an operation where bit 25 is set, else a move (S16)
 unfoldable pub cop0 : ℕ → Decoded
-cop0 w = pick (set? w 25) (operation w) (move w)
+cop0 w = pick (set? w 25) (operation (funct w)) (move (rs w) (rt w) (rd w))
 
 -- the instruction of an entry, with the fields that it uses; fields that should be zero are not looked at (S17; house)
-unfoldable pub instruction : Entry → ℕ → Decoded
+abbrev pub instruction : Entry → ℕ → Decoded
 instruction reserved w = Reserved
 instruction COP0 w = cop0 w
 instruction CP1 w = Coprocessor 1

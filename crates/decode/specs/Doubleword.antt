@@ -110,7 +110,7 @@ doubleMove MTC0 = false
 doubleMove DMTC0 = true
 
 -- a doubleword instruction or LWU: reserved in User mode (D11)
-unfoldable pub isDouble : Instr → Bool
+abbrev pub isDouble : Instr → Bool
 isDouble (Load op base rt offset) = doubleLoad op
 isDouble (Store op base rt offset) = doubleStore op
 isDouble (Arithmetic op rs rt rd) = doubleArithmetic op

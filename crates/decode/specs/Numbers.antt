@@ -40,57 +40,105 @@ use Rattle.decode.specs.Maps.{Entry, Major}
 use Rattle.decode.specs.Maps.Major.{SPECIAL, REGIMM, own}
 use Rattle.decode.specs.Maps.Entry.{reserved, COP0, CP1, CP2, CACHE, load, store, arithmetic, arithmeticI, logic, logicI, shift, shiftV, multiply, hiLo, branch, jump, jumpR, trap, trapI, special}
 
--- operation n of each class; past the end, the last
+-- the operations of each class but the last, and operation n: past the end, the last
+abbrev pub loadOps : List LoadOp
+loadOps = LB ∷ LBU ∷ LH ∷ LHU ∷ LW ∷ LWU ∷ LD ∷ LWL ∷ LWR ∷ LDL ∷ LDR ∷ LL ∷ []
+
 abbrev pub loadOp : ℕ → LoadOp
-loadOp n = getD (LB ∷ LBU ∷ LH ∷ LHU ∷ LW ∷ LWU ∷ LD ∷ LWL ∷ LWR ∷ LDL ∷ LDR ∷ LL ∷ []) n LLD
+loadOp n = getD loadOps n LLD
+
+abbrev pub storeOps : List StoreOp
+storeOps = SB ∷ SH ∷ SW ∷ SD ∷ SWL ∷ SWR ∷ SDL ∷ SDR ∷ SC ∷ []
 
 abbrev pub storeOp : ℕ → StoreOp
-storeOp n = getD (SB ∷ SH ∷ SW ∷ SD ∷ SWL ∷ SWR ∷ SDL ∷ SDR ∷ SC ∷ []) n SCD
+storeOp n = getD storeOps n SCD
+
+abbrev pub arithmeticOps : List ArithmeticOp
+arithmeticOps = ADD ∷ ADDU ∷ SUB ∷ SUBU ∷ DADD ∷ DADDU ∷ DSUB ∷ DSUBU ∷ SLT ∷ []
 
 abbrev pub arithmeticOp : ℕ → ArithmeticOp
-arithmeticOp n = getD (ADD ∷ ADDU ∷ SUB ∷ SUBU ∷ DADD ∷ DADDU ∷ DSUB ∷ DSUBU ∷ SLT ∷ []) n SLTU
+arithmeticOp n = getD arithmeticOps n SLTU
+
+abbrev pub arithmeticImmediateOps : List ArithmeticImmediateOp
+arithmeticImmediateOps = ADDI ∷ ADDIU ∷ DADDI ∷ DADDIU ∷ SLTI ∷ []
 
 abbrev pub arithmeticImmediateOp : ℕ → ArithmeticImmediateOp
-arithmeticImmediateOp n = getD (ADDI ∷ ADDIU ∷ DADDI ∷ DADDIU ∷ SLTI ∷ []) n SLTIU
+arithmeticImmediateOp n = getD arithmeticImmediateOps n SLTIU
+
+abbrev pub logicOps : List LogicOp
+logicOps = AND ∷ OR ∷ XOR ∷ []
 
 abbrev pub logicOp : ℕ → LogicOp
-logicOp n = getD (AND ∷ OR ∷ XOR ∷ []) n NOR
+logicOp n = getD logicOps n NOR
+
+abbrev pub logicImmediateOps : List LogicImmediateOp
+logicImmediateOps = ANDI ∷ ORI ∷ XORI ∷ []
 
 abbrev pub logicImmediateOp : ℕ → LogicImmediateOp
-logicImmediateOp n = getD (ANDI ∷ ORI ∷ XORI ∷ []) n LUI
+logicImmediateOp n = getD logicImmediateOps n LUI
+
+abbrev pub shiftOps : List ShiftOp
+shiftOps = SLL ∷ SRL ∷ SRA ∷ DSLL ∷ DSRL ∷ DSRA ∷ DSLL32 ∷ DSRL32 ∷ []
 
 abbrev pub shiftOp : ℕ → ShiftOp
-shiftOp n = getD (SLL ∷ SRL ∷ SRA ∷ DSLL ∷ DSRL ∷ DSRA ∷ DSLL32 ∷ DSRL32 ∷ []) n DSRA32
+shiftOp n = getD shiftOps n DSRA32
+
+abbrev pub shiftVariableOps : List ShiftVariableOp
+shiftVariableOps = SLLV ∷ SRLV ∷ SRAV ∷ DSLLV ∷ DSRLV ∷ []
 
 abbrev pub shiftVariableOp : ℕ → ShiftVariableOp
-shiftVariableOp n = getD (SLLV ∷ SRLV ∷ SRAV ∷ DSLLV ∷ DSRLV ∷ []) n DSRAV
+shiftVariableOp n = getD shiftVariableOps n DSRAV
+
+abbrev pub multiplyOps : List MultiplyOp
+multiplyOps = MULT ∷ MULTU ∷ DIV ∷ DIVU ∷ DMULT ∷ DMULTU ∷ DDIV ∷ []
 
 abbrev pub multiplyOp : ℕ → MultiplyOp
-multiplyOp n = getD (MULT ∷ MULTU ∷ DIV ∷ DIVU ∷ DMULT ∷ DMULTU ∷ DDIV ∷ []) n DDIVU
+multiplyOp n = getD multiplyOps n DDIVU
+
+abbrev pub hiLoOps : List HiLoOp
+hiLoOps = MFHI ∷ MTHI ∷ MFLO ∷ []
 
 abbrev pub hiLoOp : ℕ → HiLoOp
-hiLoOp n = getD (MFHI ∷ MTHI ∷ MFLO ∷ []) n MTLO
+hiLoOp n = getD hiLoOps n MTLO
+
+abbrev pub branchOps : List BranchOp
+branchOps = BEQ ∷ BNE ∷ BLEZ ∷ BGTZ ∷ BLTZ ∷ BGEZ ∷ BLTZAL ∷ BGEZAL ∷ BEQL ∷ BNEL ∷ BLEZL ∷ BGTZL ∷ BLTZL ∷ BGEZL ∷ BLTZALL ∷ []
 
 abbrev pub branchOp : ℕ → BranchOp
-branchOp n = getD (BEQ ∷ BNE ∷ BLEZ ∷ BGTZ ∷ BLTZ ∷ BGEZ ∷ BLTZAL ∷ BGEZAL ∷ BEQL ∷ BNEL ∷ BLEZL ∷ BGTZL ∷ BLTZL ∷ BGEZL ∷ BLTZALL ∷ []) n BGEZALL
+branchOp n = getD branchOps n BGEZALL
+
+abbrev pub jumpOps : List JumpOp
+jumpOps = J ∷ []
 
 abbrev pub jumpOp : ℕ → JumpOp
-jumpOp n = getD (J ∷ []) n JAL
+jumpOp n = getD jumpOps n JAL
+
+abbrev pub jumpRegisterOps : List JumpRegisterOp
+jumpRegisterOps = JR ∷ []
 
 abbrev pub jumpRegisterOp : ℕ → JumpRegisterOp
-jumpRegisterOp n = getD (JR ∷ []) n JALR
+jumpRegisterOp n = getD jumpRegisterOps n JALR
+
+abbrev pub trapOps : List TrapOp
+trapOps = TGE ∷ TGEU ∷ TLT ∷ TLTU ∷ TEQ ∷ []
 
 abbrev pub trapOp : ℕ → TrapOp
-trapOp n = getD (TGE ∷ TGEU ∷ TLT ∷ TLTU ∷ TEQ ∷ []) n TNE
+trapOp n = getD trapOps n TNE
+
+abbrev pub trapImmediateOps : List TrapImmediateOp
+trapImmediateOps = TGEI ∷ TGEIU ∷ TLTI ∷ TLTIU ∷ TEQI ∷ []
 
 abbrev pub trapImmediateOp : ℕ → TrapImmediateOp
-trapImmediateOp n = getD (TGEI ∷ TGEIU ∷ TLTI ∷ TLTIU ∷ TEQI ∷ []) n TNEI
+trapImmediateOp n = getD trapImmediateOps n TNEI
 
--- entry n of class 0, those that stand alone; past the end, reserved
+-- class 0, the entries that stand alone, and entry n: past the end, reserved
+abbrev pub others : List Entry
+others = COP0 ∷ CP1 ∷ CP2 ∷ CACHE ∷ special SYSCALL ∷ special BREAK ∷ special SYNC ∷ []
+
 abbrev pub other : ℕ → Entry
-other n = getD (COP0 ∷ CP1 ∷ CP2 ∷ CACHE ∷ special SYSCALL ∷ special BREAK ∷ special SYNC ∷ []) n reserved
+other n = getD others n reserved
 
--- the classes in their order, each at its operation n
+-- the classes but the last, each at its operation n
 abbrev pub classes : ℕ → List Entry
 classes n =
     other n
@@ -108,12 +156,15 @@ classes n =
     ∷ jump (jumpOp n)
     ∷ jumpR (jumpRegisterOp n)
     ∷ trap (trapOp n)
-    ∷ trapI (trapImmediateOp n)
     ∷ []
+
+-- the last class
+abbrev pub lastClass : ℕ → Entry
+lastClass n = trapI (trapImmediateOp n)
 
 -- the entry that a number stands for
 unfoldable pub entryOf : ℕ → Entry
-entryOf n = getD (classes (n % 16)) (n / 16) reserved
+entryOf n = getD (classes (n % 16)) (n / 16) (lastClass (n % 16))
 
 -- the place of the major map that a number stands for
 unfoldable pub majorOf : ℕ → Major

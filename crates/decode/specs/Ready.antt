@@ -11,7 +11,7 @@ use Rattle.decode.specs.declared.Ready.the-variants as Ready
 use Rattle.decode.specs.Doubleword.{isDouble}
 
 -- a CP0 instruction, or CACHE (T21)
-unfoldable pub isCp0 : Instr → Bool
+abbrev pub isCp0 : Instr → Bool
 isCp0 (Load op base rt offset) = false
 isCp0 (Store op base rt offset) = false
 isCp0 (Arithmetic op rs rt rd) = false
@@ -34,7 +34,7 @@ isCp0 (Tlb op) = true
 isCp0 Eret = true
 
 -- a branch, a jump or ERET, which may not stand in a delay slot (N11)
-unfoldable pub isBranch : Instr → Bool
+abbrev pub isBranch : Instr → Bool
 isBranch (Load op base rt offset) = false
 isBranch (Store op base rt offset) = false
 isBranch (Arithmetic op rs rt rd) = false
@@ -60,17 +60,25 @@ isBranch Eret = true
 abbrev pub locked : Bool → Bool → Bool
 locked user cu0 = both user (not cu0)
 
--- an instruction, in the order of the checks: CP0 or CACHE where CP0 is locked; a doubleword instruction in User mode; a branch in a slot (S6, T21, D11, N11, N19)
-unfoldable pub usable : Bool → Bool → Bool → Instr → Ready
-usable user cu0 slot i =
-    pick (both (locked user cu0) (isCp0 i)) (Unusable 0)
-    (pick (both user (isDouble i)) Ready.Reserved
-    (pick (both slot (isBranch i)) InSlot
-    (Go i)))
+-- the last check: a branch, jump or ERET in a slot is stop 17 (N11, N19)
+unfoldable pub inPlace : Bool → Instr → Ready
+inPlace slot i = pick (both slot (isBranch i)) InSlot (Go i)
 
--- any word, with User mode, CU0 and a pending slot: a code of CP1 or CP2 is unusable, one of COP0 where CP0 is locked, reserved or not (S6, S14, S15, S16)
+-- before it: a doubleword instruction or LWU in User mode is reserved (D11)
+unfoldable pub allowed : Bool → Bool → Instr → Ready
+allowed user slot i = pick (both user (isDouble i)) Ready.Reserved (inPlace slot i)
+
+-- first of all: a CP0 instruction or CACHE where CP0 is locked is unusable, with unit 0 (S6, T21)
+unfoldable pub usable : Bool → Bool → Bool → Instr → Ready
+usable user cu0 slot i = pick (both (locked user cu0) (isCp0 i)) (Unusable 0) (allowed user slot i)
+
+-- a COP0 code that is none: unusable where CP0 is locked, else reserved (S6, S16, T21)
+unfoldable pub reservedCop0 : Bool → Bool → Ready
+reservedCop0 user cu0 = pick (locked user cu0) (Unusable 0) Ready.Reserved
+
+-- any word, with User mode, CU0 and a pending slot: a code of CP1 or CP2 is unusable always (S6, S14, S15)
 unfoldable pub ready : Bool → Bool → Bool → Decoded → Ready
 ready user cu0 slot (Is i) = usable user cu0 slot i
 ready user cu0 slot (Coprocessor unit) = Unusable unit
-ready user cu0 slot ReservedCop0 = pick (locked user cu0) (Unusable 0) Ready.Reserved
+ready user cu0 slot ReservedCop0 = reservedCop0 user cu0
 ready user cu0 slot Reserved = Ready.Reserved

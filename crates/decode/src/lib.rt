@@ -1,4 +1,15 @@
 // Decoding: from the 32 bits of a word to an instruction by its manual name, and what it needs to be usable.
+ghost use mathlib.Core.Path.{_≡_};
+ghost use Rattle.decode.specs.Decode as D;
+
+pub mod fields; // the fields of a word
+mod maps; // the three maps as tables of numbers
+mod operations; // an operation by its number in its class
+mod instructions; // an instruction by its entry's number
+mod doubleword; // the doubleword instructions
+pub mod usability; // whether the step may go on with it
+
+use maps::MAJOR;
 
 pub enum LoadOp {
     LB,
@@ -283,4 +294,18 @@ pub enum Ready {
     Unusable(u8),
     Reserved,
     InSlot,
+}
+
+// What a word is.
+pub fn decode(w: u32) -> Decoded
+    ensures { λ r. ⌜ r ≡ D.decode w ⌝ }
+{
+    let number = MAJOR[fields::opcode(w)];
+    if number == 0x0d {
+        return instructions::special_word(w);
+    }
+    if number == 0x0e {
+        return instructions::regimm_word(w);
+    }
+    instructions::instruction(number, w)
 }

@@ -1,4 +1,9 @@
 // What a step comes to, as numbers only: fetch and access look at memory, nothing here changes it.
+mod after;
+mod build;
+
+pub use after::cp0_after;
+pub use after::cpu_after;
 use cp0::Exception;
 use memory::PAddr;
 use memory::Store;

@@ -3,3 +3,4 @@ pub mod Cards
 pub mod Tables
 pub mod Runs
 pub mod Spans
+pub mod Right

@@ -7,3 +7,4 @@ pub mod Unaligned
 pub mod Stores
 pub mod MemoryLaws
 pub mod StoreLaws
+pub mod LoadLaws

@@ -1,4 +1,4 @@
--- Laws of stores: what a store leaves as it was, what it depends on, and that a load of the same place gives the value back.
+-- Laws of stores: which bytes a store sets, what it leaves as it was, and what it depends on.
 use Prim.Native.Nat.{ℕ, zero, suc, _+_, _-_, _*_, _/_, _%_, _^_, _≤_, _<_}
 use native.Mathlib.Decide.{ℕ-discrete, decLt}
 use native.Mathlib.Omega.{arith}
@@ -8,13 +8,14 @@ use mathlib.Core.Bool.{Bool, true, false}
 use mathlib.Core.Logic.{_≢_}
 use lib.ListN.{length, getD, set, length-set, List·getD-eq-default}
 use lib.Seq.{sets, length-sets, getD-set-same, getD-set-other}
-use borrow.Author.Tests.{ltb-true, leb-true, leb-false}
-use lib.Dec.{leb, ltb}
+use lib.Dec.{leb}
+use borrow.Author.Tests.{ltb-true, leb-true}
 use Rattle.promise.specs.Pick.{pick, both}
 use Rattle.memory.specs.declared.PAddr.{PAddr}
 use Rattle.memory.specs.declared.Store.{Store}
 use Rattle.memory.specs.declared.Store.the-variants.{Nowhere, Write}
 use Rattle.memory.specs.Bytes.{byte, bytesOf}
+use Rattle.memory.specs.BytesLaws.{byte-lt}
 use Rattle.memory.specs.Memory.{inRam, part, read}
 use Rattle.memory.specs.MemoryLaws.{SameEight, part-same, read-same}
 use Rattle.memory.specs.Stores.{lands, putBytes, putAnswer}
@@ -61,6 +62,23 @@ sets-agree l l′ i [] k e h = h
 sets-agree l l′ i (v ∷ vs) k e h =
     sets-agree (set l i v) (set l′ i v) (suc i) vs k (length-set l i v ∙ e ∙ sym (length-set l′ i v)) (set-agree l l′ i v k e h)
 
+-- every element is a byte
+abbrev pub Bytes : List ℕ → Type 0
+Bytes l = (k : ℕ) → getD l k 0 < 256
+
+set-bytes : (l : List ℕ) (i v : ℕ) → v < 256 → Bytes l → Bytes (set l i v)
+set-bytes l i v h b k = go (ℕ-discrete k i) (decLt i (length l))
+  where
+    go : Dec (k ≡ i) → Dec (i < length l) → getD (set l i v) k 0 < 256
+    go (no n) d = rw (getD-set-other l i k v 0 n) (b k)
+    go (yes q) (yes lt) = rw (q, getD-set-same l i v 0 lt) h
+    go (yes q) (no ge) = omega (arith, List·getD-eq-default (set l i v) 0 {n = k} (omega (arith, length-set l i v)))
+
+sets-bytes : (l : List ℕ) (i n x : ℕ) → Bytes l → Bytes (sets l i (bytesOf n x))
+unfolding bytesOf
+sets-bytes l i zero x b = b
+sets-bytes l i (suc n) x b = sets-bytes (set l i (byte x n)) (suc i) n x (set-bytes l i (byte x n) (byte-lt x n) b)
+
 -- RAM keeps its length
 pub length-put : (ram : List ℕ) (s : Store) → length (putBytes ram s) ≡ length ram
 unfolding putBytes
@@ -70,6 +88,16 @@ length-put ram (Write to size value) = go (lands ram to size)
     go : (b : Bool) → length (pick b (sets ram (to .0) (bytesOf size value)) ram) ≡ length ram
     go true = length-sets ram (to .0) (bytesOf size value)
     go false = refl
+
+-- and stays a list of bytes
+pub bytes-put : (ram : List ℕ) (s : Store) → Bytes ram → Bytes (putBytes ram s)
+unfolding putBytes
+bytes-put ram Nowhere b = b
+bytes-put ram (Write to size value) b = go (lands ram to size)
+  where
+    go : (t : Bool) → Bytes (pick t (sets ram (to .0) (bytesOf size value)) ram)
+    go true = sets-bytes ram (to .0) size value b
+    go false = b
 
 -- two RAMs as long have the same answer
 pub answer-same : (ram ram′ : List ℕ) (s : Store) → length ram ≡ length ram′ → putAnswer ram s ≡ putAnswer ram′ s
@@ -87,6 +115,20 @@ put-agree ram ram′ (Write to size value) k e h = rw e (go (lands ram′ to siz
     go true = sets-agree ram ram′ (to .0) (bytesOf size value) k e h
     go false = h
 
+both-true : (a b : Bool) → both a b ≡ true → (a ≡ true) × (b ≡ true)
+both-true true b e = (refl, e)
+both-true false b e = let z : _≡_ {A = ℕ} 0 1 = cc in absurd (omega arith)
+
+-- what it is to land
+pub landing :
+    (ram : List ℕ) (to : PAddr) (size : ℕ)
+    → lands ram to size ≡ true
+    → (to .0 / 8 < length ram / 8) × (1 ≤ size) × (to .0 % 8 + size ≤ 8)
+landing ram to size e =
+    let a = both-true (inRam ram to) _ e in
+    let b = both-true (leb 1 size) _ (a .1) in
+    (ltb-true _ _ (a .0), leb-true _ _ (b .0), leb-true _ _ (b .1))
+
 module _ (ram : List ℕ) (to : PAddr) (size value : ℕ) where
   -- a store leaves every byte outside its own
   pub put-other : (k : ℕ) → ((j : ℕ) → j < size → k ≢ to .0 + j) → getD (putBytes ram (Write to size value)) k 0 ≡ getD ram k 0
@@ -98,11 +140,28 @@ module _ (ram : List ℕ) (to : PAddr) (size value : ℕ) where
       go false = refl
 
   -- where it lands, its bytes stand there
-  pub put-byte : lands ram to size ≡ true → to .0 + size ≤ length ram → (j : ℕ) → j < size → getD (putBytes ram (Write to size value)) (to .0 + j) 0 ≡ byte value (size - 1 - j)
+  pub put-byte : lands ram to size ≡ true → (j : ℕ) → j < size → getD (putBytes ram (Write to size value)) (to .0 + j) 0 ≡ byte value (size - 1 - j)
   unfolding putBytes
-  put-byte t h j lt = rw t (sets-byte ram (to .0) size value j h lt)
+  put-byte t j lt = rw t (sets-byte ram (to .0) size value j (omega (arith, landing ram to size t)) lt)
 
   -- where it does not land, nothing changes
   pub put-refused : lands ram to size ≡ false → putBytes ram (Write to size value) ≡ ram
   unfolding putBytes
   put-refused t = rw t
+
+-- a store leaves what is read elsewhere
+module _ (ram rom : List ℕ) (to p : PAddr) (size value : ℕ) (away : to .0 / 8 ≢ p .0 / 8) where
+  eight-elsewhere : (b : Bool) → lands ram to size ≡ b → SameEight (putBytes ram (Write to size value)) ram (p .0)
+  eight-elsewhere false e i h = rw (put-refused ram to size value e)
+  eight-elsewhere true e i h =
+      put-other ram to size value (p .0 / 8 * 8 + i) (λ j l q. away (omega (arith, landing ram to size e .2)))
+
+  pub part-elsewhere : part (putBytes ram (Write to size value)) rom p ≡ part ram rom p
+  part-elsewhere =
+      part-same (putBytes ram (Write to size value)) ram rom rom p (length-put ram (Write to size value)) refl
+      (eight-elsewhere (lands ram to size) refl) (λ l i h. refl)
+
+  pub read-elsewhere : read (putBytes ram (Write to size value)) rom p ≡ read ram rom p
+  read-elsewhere =
+      read-same (putBytes ram (Write to size value)) ram rom rom p (length-put ram (Write to size value)) refl
+      (eight-elsewhere (lands ram to size) refl) (λ l i h. refl)

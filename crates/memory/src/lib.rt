@@ -9,9 +9,12 @@ mod loads;
 mod stores;
 mod unaligned;
 
+pub use loads::lb;
 pub use loads::lbu;
 pub use loads::ld;
+pub use loads::lh;
 pub use loads::lhu;
+pub use loads::lw;
 pub use loads::lwu;
 pub use stores::put_bytes;
 pub use stores::sb;
@@ -24,6 +27,8 @@ pub use stores::swl;
 pub use stores::swr;
 pub use unaligned::ldl;
 pub use unaligned::ldr;
+pub use unaligned::lwl;
+pub use unaligned::lwr;
 
 // A physical address; 36 bits are used.
 pub struct PAddr(pub u64);

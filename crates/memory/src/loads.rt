@@ -30,3 +30,24 @@ pub fn ld(n: u64, p: PAddr) -> u64
 {
     n
 }
+
+// LB: the byte, sign-extended.
+pub fn lb(n: u64, p: PAddr) -> u64
+    ensures { λ r. ⌜ r ≡ L.lb n p ⌝ }
+{
+    word::extend_byte(lbu(n, p))
+}
+
+// LH: the halfword, sign-extended.
+pub fn lh(n: u64, p: PAddr) -> u64
+    ensures { λ r. ⌜ r ≡ L.lh n p ⌝ }
+{
+    word::extend_half(lhu(n, p))
+}
+
+// LW: the word, sign-extended.
+pub fn lw(n: u64, p: PAddr) -> u64
+    ensures { λ r. ⌜ r ≡ L.lw n p ⌝ }
+{
+    word::extend(lwu(n, p))
+}

@@ -2,6 +2,7 @@
 use crate::PAddr;
 use crate::byte;
 use crate::eight_of;
+use crate::lwu;
 ghost use mathlib.Core.Path.{_≡_};
 ghost use Prim.Native.Nat.{ℕ, _+_, _<_, _≤_};
 ghost use Rattle.memory.specs.Bytes as B;
@@ -53,4 +54,24 @@ pub fn ldr(n: u64, p: PAddr, old: u64) -> u64
 {
     let b = p.0 % 8;
     merge(old, 0, b + 1, n >> (8 * (7 - b)))
+}
+
+// LWL: the same of the aligned word, on top of the register's low word; the sign is extended from bit 31.
+pub fn lwl(n: u64, p: PAddr, old: u64) -> u64
+    ensures { λ r. ⌜ r ≡ U.lwl n p old ⌝ }
+{
+    let b = p.0 % 4;
+    word::extend(merge(old, b, 4 - b, lwu(n, p)))
+}
+
+// LWR: the same of the aligned word. Only a full one extends the sign; a partial one keeps the upper 32 bits.
+pub fn lwr(n: u64, p: PAddr, old: u64) -> u64
+    ensures { λ r. ⌜ r ≡ U.lwr n p old ⌝ }
+{
+    let b = p.0 % 4;
+    let merged = merge(old, 0, b + 1, lwu(n, p) >> (8 * (3 - b)));
+    if b == 3 {
+        return word::extend(merged);
+    }
+    merged
 }

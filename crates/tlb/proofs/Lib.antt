@@ -5,3 +5,8 @@ pub mod EachSlot
 pub mod Extended
 pub mod Kept
 pub mod Tells
+pub mod Once
+pub mod Near
+pub mod Written
+pub mod StaysInRange
+pub mod LegalMasks

@@ -4,6 +4,7 @@ use mathlib.Core.Bool.{Bool}
 use mathlib.Core.List.{List}
 use lib.Dec.{ltb, eqb}
 use Rattle.promise.specs.Pick.{pick, both}
+use Rattle.word.specs.Word.{extend}
 use Rattle.tlb.specs.declared.VAddr.{VAddr}
 use Rattle.tlb.specs.declared.Mode.{Mode}
 use Rattle.tlb.specs.declared.Mode.the-variants.{User, Kernel, Error}
@@ -19,13 +20,9 @@ aligned align v = eqb (v .0 % align) 0
 abbrev pub word : VAddr → ℕ
 word v = v .0 % 2 ^ 32
 
--- the sign extension of 32 bits to 64
-abbrev pub extension : ℕ → ℕ
-extension w = pick (ltb w (2 ^ 31)) w (w + (2 ^ 64 - 2 ^ 32))
-
 -- an address is the sign extension of its low 32 bits (D3, house)
 unfoldable pub extended : VAddr → Bool
-extended v = eqb (v .0) (extension (word v))
+extended v = eqb (v .0) (extend (v .0))
 
 -- Kernel's upper half: 80000000..9FFFFFFF and A0000000..BFFFFFFF lie on physical 0 upward, the rest is mapped (D7)
 unfoldable pub upper : ℕ → List ℕ → VAddr → Where

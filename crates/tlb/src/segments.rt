@@ -7,6 +7,13 @@ use super::Where;
 use super::through::mapped;
 use memory::PAddr;
 
+// Where User's segment ends, and where Kernel's first unmapped and next mapped segments start, in 32 bits.
+const USEG_END: u64 = 0x8000_0000;
+
+const KSEG0: u64 = 0x8000_0000;
+
+const KSEG2: u64 = 0xc000_0000;
+
 // The address is a multiple of `align`, which is 1, 2, 4 or 8 wherever an instruction asks.
 fn aligned(align: u64, v: VAddr) -> bool
     ensures { λ r. ⌜ r ≡ S.aligned align v ⌝ }
@@ -44,7 +51,7 @@ fn upper(asid: u64, tlb: &[u64; 192], v: VAddr) -> Where
     ensures { λ r. ⌜ r ≡ S.upper asid (now (tlb .entry)) v ⌝ }
 {
     let word = v.0 % 0x1_0000_0000;
-    if word < 0xc000_0000 {
+    if word < KSEG2 {
         return Where::Unmapped(PAddr(word % 0x2000_0000));
     }
     mapped(tlb, asid, v)
@@ -57,19 +64,19 @@ fn segment(mode: Mode, asid: u64, tlb: &[u64; 192], v: VAddr) -> Where
     let word = v.0 % 0x1_0000_0000;
     match mode {
         Mode::User => {
-            if word < 0x8000_0000 {
+            if word < USEG_END {
                 return mapped(tlb, asid, v);
             }
             Where::AddressError
         }
         Mode::Kernel => {
-            if word < 0x8000_0000 {
+            if word < KSEG0 {
                 return mapped(tlb, asid, v);
             }
             upper(asid, tlb, v)
         }
         Mode::Error => {
-            if word < 0x8000_0000 {
+            if word < KSEG0 {
                 return Where::Unmapped(PAddr(word));
             }
             upper(asid, tlb, v)

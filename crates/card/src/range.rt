@@ -1,0 +1,251 @@
+// The fresh machine, and the range that a run accepts.
+ghost use mathlib.Core.Path.{_≡_};
+ghost use Rattle.card.specs.Machine as Rule;
+use crate::Machine;
+use cp0::Cp0;
+use effect::Cpu;
+
+// The 48 slots of a fresh machine, four numbers each: slot i holds page 80000000 + i * 2000h, not valid.
+const FRESH_SLOTS: [u64; 192] = [
+    0,
+    0x80000000,
+    0,
+    0,
+    0,
+    0x80002000,
+    0,
+    0,
+    0,
+    0x80004000,
+    0,
+    0,
+    0,
+    0x80006000,
+    0,
+    0,
+    0,
+    0x80008000,
+    0,
+    0,
+    0,
+    0x8000a000,
+    0,
+    0,
+    0,
+    0x8000c000,
+    0,
+    0,
+    0,
+    0x8000e000,
+    0,
+    0,
+    0,
+    0x80010000,
+    0,
+    0,
+    0,
+    0x80012000,
+    0,
+    0,
+    0,
+    0x80014000,
+    0,
+    0,
+    0,
+    0x80016000,
+    0,
+    0,
+    0,
+    0x80018000,
+    0,
+    0,
+    0,
+    0x8001a000,
+    0,
+    0,
+    0,
+    0x8001c000,
+    0,
+    0,
+    0,
+    0x8001e000,
+    0,
+    0,
+    0,
+    0x80020000,
+    0,
+    0,
+    0,
+    0x80022000,
+    0,
+    0,
+    0,
+    0x80024000,
+    0,
+    0,
+    0,
+    0x80026000,
+    0,
+    0,
+    0,
+    0x80028000,
+    0,
+    0,
+    0,
+    0x8002a000,
+    0,
+    0,
+    0,
+    0x8002c000,
+    0,
+    0,
+    0,
+    0x8002e000,
+    0,
+    0,
+    0,
+    0x80030000,
+    0,
+    0,
+    0,
+    0x80032000,
+    0,
+    0,
+    0,
+    0x80034000,
+    0,
+    0,
+    0,
+    0x80036000,
+    0,
+    0,
+    0,
+    0x80038000,
+    0,
+    0,
+    0,
+    0x8003a000,
+    0,
+    0,
+    0,
+    0x8003c000,
+    0,
+    0,
+    0,
+    0x8003e000,
+    0,
+    0,
+    0,
+    0x80040000,
+    0,
+    0,
+    0,
+    0x80042000,
+    0,
+    0,
+    0,
+    0x80044000,
+    0,
+    0,
+    0,
+    0x80046000,
+    0,
+    0,
+    0,
+    0x80048000,
+    0,
+    0,
+    0,
+    0x8004a000,
+    0,
+    0,
+    0,
+    0x8004c000,
+    0,
+    0,
+    0,
+    0x8004e000,
+    0,
+    0,
+    0,
+    0x80050000,
+    0,
+    0,
+    0,
+    0x80052000,
+    0,
+    0,
+    0,
+    0x80054000,
+    0,
+    0,
+    0,
+    0x80056000,
+    0,
+    0,
+    0,
+    0x80058000,
+    0,
+    0,
+    0,
+    0x8005a000,
+    0,
+    0,
+    0,
+    0x8005c000,
+    0,
+    0,
+    0,
+    0x8005e000,
+    0,
+    0,
+];
+
+// The machine as it is switched on.
+pub fn fresh() -> Machine
+    ensures { λ r. ⌜ r ≡ Rule.fresh ⌝ }
+{
+    let cpu = Cpu {
+        pc: 0xffff_ffff_bfc0_0000,
+        slot: false,
+        target: 0,
+        hi: 0,
+        lo: 0,
+        link: false,
+    };
+    let cp0 = cp0::fresh_cp0();
+    let regs = [0u64; 32];
+    let tlb = FRESH_SLOTS;
+    Machine {
+        cpu,
+        cp0,
+        regs,
+        tlb,
+    }
+}
+
+// No target without a slot.
+fn cpu_in_range(cpu: Cpu) -> bool
+    ensures { λ r. ⌜ r ≡ Rule.cpuInRange cpu ⌝ }
+{
+    if cpu.slot {
+        return true;
+    }
+    cpu.target == 0
+}
+
+// Every field of a machine is in its range.
+pub fn in_range(cpu: Cpu, cp0: Cp0, regs: &[u64; 32], tlb: &[u64; 192]) -> bool
+    ensures { λ r. ⌜ r ≡ Rule.inRange (Rule.machine cpu cp0 (now (regs .entry)) (now (tlb .entry))) ⌝ }
+{
+    if regs[0] != 0 {
+        return false;
+    }
+    if cpu_in_range(cpu) {
+        if cp0::cp0_in_range(cp0) {
+            return tlb::tlb_in_range(tlb);
+        }
+        return false;
+    }
+    false
+}

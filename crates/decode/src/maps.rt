@@ -1,0 +1,177 @@
+// The maps of codes as tables of numbers, row by row as the manual draws them. A number is sixteen times the class, plus the
+// operation in its class. The classes: 0 what stands alone, 1 load, 2 store, 3 arithmetic, 4 arithmetic immediate, 5 logic,
+// 6 logic immediate, 7 shift, 8 shift variable, 9 multiply and divide, a HI and LO, b branch, c jump, d jump register, e trap,
+// f trap immediate. In class 0: 0 COP0, 1 a code of CP1, 2 of CP2, 3 CACHE, 4 SYSCALL, 5 BREAK, 6 SYNC, d SPECIAL, e REGIMM,
+// f reserved.
+
+// The 64 major opcodes.
+pub const MAJOR: [u8; 64] = [
+    0x0d, // SPECIAL
+    0x0e, // REGIMM
+    0xc0, // J
+    0xc1, // JAL
+    0xb0, // BEQ
+    0xb1, // BNE
+    0xb2, // BLEZ
+    0xb3, // BGTZ
+    0x40, // ADDI
+    0x41, // ADDIU
+    0x44, // SLTI
+    0x45, // SLTIU
+    0x60, // ANDI
+    0x61, // ORI
+    0x62, // XORI
+    0x63, // LUI
+    0x00, // COP0
+    0x01, // COP1
+    0x02, // COP2
+    0x0f, // reserved
+    0xb8, // BEQL
+    0xb9, // BNEL
+    0xba, // BLEZL
+    0xbb, // BGTZL
+    0x42, // DADDI
+    0x43, // DADDIU
+    0x19, // LDL
+    0x1a, // LDR
+    0x0f, // reserved
+    0x0f, // reserved
+    0x0f, // reserved
+    0x0f, // reserved
+    0x10, // LB
+    0x12, // LH
+    0x17, // LWL
+    0x14, // LW
+    0x11, // LBU
+    0x13, // LHU
+    0x18, // LWR
+    0x15, // LWU
+    0x20, // SB
+    0x21, // SH
+    0x24, // SWL
+    0x22, // SW
+    0x26, // SDL
+    0x27, // SDR
+    0x25, // SWR
+    0x03, // CACHE
+    0x1b, // LL
+    0x01, // LWC1
+    0x02, // LWC2
+    0x0f, // reserved
+    0x1c, // LLD
+    0x01, // LDC1
+    0x02, // LDC2
+    0x16, // LD
+    0x28, // SC
+    0x01, // SWC1
+    0x02, // SWC2
+    0x0f, // reserved
+    0x29, // SCD
+    0x01, // SDC1
+    0x02, // SDC2
+    0x23, // SD
+];
+
+// The 64 functions of SPECIAL.
+pub const SPECIAL: [u8; 64] = [
+    0x70, // SLL
+    0x0f, // reserved
+    0x71, // SRL
+    0x72, // SRA
+    0x80, // SLLV
+    0x0f, // reserved
+    0x81, // SRLV
+    0x82, // SRAV
+    0xd0, // JR
+    0xd1, // JALR
+    0x0f, // reserved
+    0x0f, // reserved
+    0x04, // SYSCALL
+    0x05, // BREAK
+    0x0f, // reserved
+    0x06, // SYNC
+    0xa0, // MFHI
+    0xa1, // MTHI
+    0xa2, // MFLO
+    0xa3, // MTLO
+    0x83, // DSLLV
+    0x0f, // reserved
+    0x84, // DSRLV
+    0x85, // DSRAV
+    0x90, // MULT
+    0x91, // MULTU
+    0x92, // DIV
+    0x93, // DIVU
+    0x94, // DMULT
+    0x95, // DMULTU
+    0x96, // DDIV
+    0x97, // DDIVU
+    0x30, // ADD
+    0x31, // ADDU
+    0x32, // SUB
+    0x33, // SUBU
+    0x50, // AND
+    0x51, // OR
+    0x52, // XOR
+    0x53, // NOR
+    0x0f, // reserved
+    0x0f, // reserved
+    0x38, // SLT
+    0x39, // SLTU
+    0x34, // DADD
+    0x35, // DADDU
+    0x36, // DSUB
+    0x37, // DSUBU
+    0xe0, // TGE
+    0xe1, // TGEU
+    0xe2, // TLT
+    0xe3, // TLTU
+    0xe4, // TEQ
+    0x0f, // reserved
+    0xe5, // TNE
+    0x0f, // reserved
+    0x73, // DSLL
+    0x0f, // reserved
+    0x74, // DSRL
+    0x75, // DSRA
+    0x76, // DSLL32
+    0x0f, // reserved
+    0x77, // DSRL32
+    0x78, // DSRA32
+];
+
+// The 32 codes of REGIMM.
+pub const REGIMM: [u8; 32] = [
+    0xb4, // BLTZ
+    0xb5, // BGEZ
+    0xbc, // BLTZL
+    0xbd, // BGEZL
+    0x0f, // reserved
+    0x0f, // reserved
+    0x0f, // reserved
+    0x0f, // reserved
+    0xf0, // TGEI
+    0xf1, // TGEIU
+    0xf2, // TLTI
+    0xf3, // TLTIU
+    0xf4, // TEQI
+    0x0f, // reserved
+    0xf5, // TNEI
+    0x0f, // reserved
+    0xb6, // BLTZAL
+    0xb7, // BGEZAL
+    0xbe, // BLTZALL
+    0xbf, // BGEZALL
+    0x0f, // reserved
+    0x0f, // reserved
+    0x0f, // reserved
+    0x0f, // reserved
+    0x0f, // reserved
+    0x0f, // reserved
+    0x0f, // reserved
+    0x0f, // reserved
+    0x0f, // reserved
+    0x0f, // reserved
+    0x0f, // reserved
+    0x0f, // reserved
+];

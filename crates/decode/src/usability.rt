@@ -1,0 +1,130 @@
+// Whether the step may go on with a word once it is decoded.
+ghost use mathlib.Core.Path.{_≡_};
+ghost use Rattle.decode.specs.Ready as U;
+use super::Decoded;
+use super::Instr;
+use super::Ready;
+use super::doubleword;
+
+// A CP0 instruction, or CACHE.
+pub fn is_cp0(i: Instr) -> bool
+    ensures { λ r. ⌜ r ≡ U.isCp0 i ⌝ }
+{
+    match i {
+        Instr::Load { .. } => false,
+        Instr::Store { .. } => false,
+        Instr::Arithmetic { .. } => false,
+        Instr::ArithmeticImmediate { .. } => false,
+        Instr::Logic { .. } => false,
+        Instr::LogicImmediate { .. } => false,
+        Instr::Shift { .. } => false,
+        Instr::ShiftVariable { .. } => false,
+        Instr::Multiply { .. } => false,
+        Instr::HiLo { .. } => false,
+        Instr::Branch { .. } => false,
+        Instr::Jump { .. } => false,
+        Instr::JumpRegister { .. } => false,
+        Instr::Trap { .. } => false,
+        Instr::TrapImmediate { .. } => false,
+        Instr::Special(_) => false,
+        Instr::Cache => true,
+        Instr::Move { .. } => true,
+        Instr::Tlb(_) => true,
+        Instr::Eret => true,
+    }
+}
+
+// A branch, a jump or ERET.
+pub fn is_branch(i: Instr) -> bool
+    ensures { λ r. ⌜ r ≡ U.isBranch i ⌝ }
+{
+    match i {
+        Instr::Load { .. } => false,
+        Instr::Store { .. } => false,
+        Instr::Arithmetic { .. } => false,
+        Instr::ArithmeticImmediate { .. } => false,
+        Instr::Logic { .. } => false,
+        Instr::LogicImmediate { .. } => false,
+        Instr::Shift { .. } => false,
+        Instr::ShiftVariable { .. } => false,
+        Instr::Multiply { .. } => false,
+        Instr::HiLo { .. } => false,
+        Instr::Branch { .. } => true,
+        Instr::Jump { .. } => true,
+        Instr::JumpRegister { .. } => true,
+        Instr::Trap { .. } => false,
+        Instr::TrapImmediate { .. } => false,
+        Instr::Special(_) => false,
+        Instr::Cache => false,
+        Instr::Move { .. } => false,
+        Instr::Tlb(_) => false,
+        Instr::Eret => true,
+    }
+}
+
+// Stop 17, the last check: a branch in a slot.
+fn in_place(slot: bool, i: Instr) -> Ready
+    ensures { λ r. ⌜ r ≡ U.inPlace slot i ⌝ }
+{
+    if slot {
+        if is_branch(i) {
+            return Ready::InSlot;
+        }
+        return Ready::Go(i);
+    }
+    Ready::Go(i)
+}
+
+// Reserved Instruction, before it: a doubleword instruction in User mode.
+fn allowed(user: bool, slot: bool, i: Instr) -> Ready
+    ensures { λ r. ⌜ r ≡ U.allowed user slot i ⌝ }
+{
+    if user {
+        if doubleword::is_double(i) {
+            return Ready::Reserved;
+        }
+        return in_place(slot, i);
+    }
+    in_place(slot, i)
+}
+
+// Coprocessor Unusable, the first check: CP0 or CACHE where CP0 is locked.
+fn usable(user: bool, cu0: bool, slot: bool, i: Instr) -> Ready
+    ensures { λ r. ⌜ r ≡ U.usable user cu0 slot i ⌝ }
+{
+    if user {
+        if cu0 {
+            return allowed(user, slot, i);
+        }
+        if is_cp0(i) {
+            return Ready::Unusable(0);
+        }
+        return allowed(user, slot, i);
+    }
+    allowed(user, slot, i)
+}
+
+// A COP0 code that is none.
+fn reserved_cop0(user: bool, cu0: bool) -> Ready
+    ensures { λ r. ⌜ r ≡ U.reservedCop0 user cu0 ⌝ }
+{
+    if user {
+        if cu0 {
+            return Ready::Reserved;
+        }
+        return Ready::Unusable(0);
+    }
+    Ready::Reserved
+}
+
+// Any word, with User mode, CU0 and a pending slot.
+pub fn ready(user: bool, cu0: bool, slot: bool, d: Decoded) -> Ready
+    ensures { λ r. ⌜ r ≡ U.ready user cu0 slot d ⌝ }
+{
+    match d {
+        Decoded::Is(i) => usable(user, cu0, slot, i),
+        Decoded::Coprocessor(unit) => Ready::Unusable(unit),
+        Decoded::ReservedCop0 => reserved_cop0(user, cu0),
+        Decoded::Reserved => Ready::Reserved,
+    }
+}

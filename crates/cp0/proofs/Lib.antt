@@ -9,3 +9,4 @@ pub mod KeepsRandom
 pub mod KeepsMoves
 pub mod KeepsSlots
 pub mod Modes
+pub mod Once

@@ -1,54 +1,42 @@
+-- By the address that is brought: each case sets just the fields that its case of the definition sets.
 use Rattle.cp0.specs.Exceptions.{addressed}
 use Rattle.cp0.specs.Registers.{set}
 use borrow.Author.Needs.{needs}
 use Rattle.cp0.proofs.exceptions.addressed.Statement.{statement}
 use Rattle.cp0.proofs.exceptions.addressed.Tie as tie
-use Rattle.cp0.proofs.exceptions.addressed.Reads as reads
-use Rattle.cp0.proofs.exceptions.addressed.Lts as lts
 
--- src/exceptions.rt:99:25
 enum-told : tie.Need-enum-told
 enum-told c = search needs
 
--- src/exceptions.rt:100:22
 enum-known-bad : tie.Need-enum-known-bad
 enum-known-bad c = search needs
 
--- src/exceptions.rt:104:19
 enum-known-bad-2 : tie.Need-enum-known-bad-2
 enum-known-bad-2 c = search needs
 
--- src/exceptions.rt:106:25
 mul-n : tie.Need-mul-n
 mul-n c = search needs
 
--- src/exceptions.rt:106:81
 mul-n-2 : tie.Need-mul-n-2
 mul-n-2 c = search needs
 
--- src/exceptions.rt:106:25
 add-n : tie.Need-add-n
 add-n c = search needs
 
--- src/exceptions.rt:107:25
 mul-n-3 : tie.Need-mul-n-3
 mul-n-3 c = search needs
 
--- src/exceptions.rt:107:25
 add-n-2 : tie.Need-add-n-2
 add-n-2 c = search needs
 
--- src/exceptions.rt:94:1
 returns : tie.Need-returns
 unfolding addressed set
 returns c = simp (c .enum-told .given .1)
 
--- src/exceptions.rt:94:1
 returns-2 : tie.Need-returns-2
 unfolding addressed set
 returns-2 c = simp (c .before .bad .given .1)
 
--- src/exceptions.rt:94:1
 returns-3 : tie.Need-returns-3
 unfolding addressed set
 returns-3 c = simp (c .before .before .before .before .before .bad2 .given .1)

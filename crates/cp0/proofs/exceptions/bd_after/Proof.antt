@@ -1,21 +1,17 @@
+-- By the two tests, EXL and the slot.
 use Rattle.cp0.specs.Exceptions.{bdAfter}
 use borrow.Author.Tests.{eq-eqb, ne-eqb}
 use Rattle.cp0.proofs.exceptions.bd_after.Statement.{statement}
 use Rattle.cp0.proofs.exceptions.bd_after.Tie as tie
-use Rattle.cp0.proofs.exceptions.bd_after.Reads as reads
-use Rattle.cp0.proofs.exceptions.bd_after.Lts as lts
 
--- src/exceptions.rt:75:9
 returns : tie.Need-returns
 unfolding bdAfter
 returns c = simp (eq-eqb _ _ (c .if1 .taken))
 
--- src/exceptions.rt:78:9
 returns-2 : tie.Need-returns-2
 unfolding bdAfter
 returns-2 c = simp (ne-eqb _ _ (c .before .if1 .left), c .if2 .taken)
 
--- src/exceptions.rt:71:1
 returns-3 : tie.Need-returns-3
 unfolding bdAfter
 returns-3 c = simp (ne-eqb _ _ (c .before .if1 .left), c .if2 .left)

@@ -1,23 +1,19 @@
+-- By the two tests, refill and EXL; either offset is at most 180h.
 use Rattle.cp0.specs.Exceptions.{offset}
 use borrow.Author.Tests.{eq-eqb, ne-eqb}
-use mathlib.Core.Path.{_≡_, refl, sym, ap, _∙_}
+use mathlib.Core.Path.{refl}
 use native.Mathlib.Omega.{arith}
 use Rattle.cp0.proofs.exceptions.offset.Statement.{statement}
 use Rattle.cp0.proofs.exceptions.offset.Tie as tie
-use Rattle.cp0.proofs.exceptions.offset.Reads as reads
-use Rattle.cp0.proofs.exceptions.offset.Lts as lts
 
--- src/exceptions.rt:137:13
 returns : tie.Need-returns
 unfolding offset
 returns c = simp (c .before .if1 .taken, eq-eqb _ _ (c .if2 .taken)) (refl, omega arith)
 
--- src/exceptions.rt:139:9
 returns-2 : tie.Need-returns-2
 unfolding offset
 returns-2 c = simp (c .before .if1 .taken, ne-eqb _ _ (c .if2 .left)) (refl, omega arith)
 
--- src/exceptions.rt:132:1
 returns-3 : tie.Need-returns-3
 unfolding offset
 returns-3 c = simp (c .if1 .left) (refl, omega arith)

@@ -1,16 +1,13 @@
+-- By the test of ERL.
 use Rattle.cp0.specs.Exceptions.{returnTo}
 use borrow.Author.Tests.{eq-eqb, ne-eqb}
 use Rattle.cp0.proofs.exceptions.return_to.Statement.{statement}
 use Rattle.cp0.proofs.exceptions.return_to.Tie as tie
-use Rattle.cp0.proofs.exceptions.return_to.Reads as reads
-use Rattle.cp0.proofs.exceptions.return_to.Lts as lts
 
--- src/exceptions.rt:161:9
 returns : tie.Need-returns
 unfolding returnTo
 returns c = simp (eq-eqb _ _ (c .if1 .taken))
 
--- src/exceptions.rt:157:1
 returns-2 : tie.Need-returns-2
 unfolding returnTo
 returns-2 c = simp (ne-eqb _ _ (c .if1 .left))

@@ -1,33 +1,26 @@
+-- By the test of ERL.
 use Rattle.cp0.specs.Exceptions.{statusReturned}
 use borrow.Author.Tests.{eq-eqb, ne-eqb}
 use borrow.Author.Needs.{needs}
 use Rattle.cp0.proofs.exceptions.status_returned.Statement.{statement}
 use Rattle.cp0.proofs.exceptions.status_returned.Tie as tie
-use Rattle.cp0.proofs.exceptions.status_returned.Reads as reads
-use Rattle.cp0.proofs.exceptions.status_returned.Lts as lts
 
--- src/exceptions.rt:171:16
 mul-result : tie.Need-mul-result
 mul-result c = search needs
 
--- src/exceptions.rt:171:16
 add-result : tie.Need-add-result
 add-result c = search needs
 
--- src/exceptions.rt:171:9
 returns : tie.Need-returns
 unfolding statusReturned
 returns c = simp (eq-eqb _ _ (c .if1 .taken))
 
--- src/exceptions.rt:173:5
 mul-result-2 : tie.Need-mul-result-2
 mul-result-2 c = search needs
 
--- src/exceptions.rt:173:5
 add-result-2 : tie.Need-add-result-2
 add-result-2 c = search needs
 
--- src/exceptions.rt:167:1
 returns-2 : tie.Need-returns-2
 unfolding statusReturned
 returns-2 c = simp (ne-eqb _ _ (c .if1 .left))

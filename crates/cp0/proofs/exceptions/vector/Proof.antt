@@ -1,35 +1,26 @@
+-- By the test of BEV; the offset is at most 180h, so that the sum fits.
 use Rattle.cp0.specs.Exceptions.{vector}
 use borrow.Author.Tests.{eq-eqb, ne-eqb}
 use borrow.Author.Needs.{needs}
 use Rattle.cp0.proofs.exceptions.vector.Statement.{statement}
 use Rattle.cp0.proofs.exceptions.vector.Tie as tie
-use Rattle.cp0.proofs.exceptions.vector.Reads as reads
-use Rattle.cp0.proofs.exceptions.vector.Lts as lts
-use Rattle.cp0.proofs.exceptions.offset.Reads as offset-reads
-use Rattle.cp0.proofs.exceptions.told.Reads as told-reads
 
--- src/exceptions.rt:148:9
 told-requires : tie.Need-told-requires
 told-requires c κs = search needs
 
--- src/exceptions.rt:149:9
 offset-requires : tie.Need-offset-requires
 offset-requires c κs = search needs
 
--- src/exceptions.rt:151:16
 add-result : tie.Need-add-result
 add-result c = search needs
 
--- src/exceptions.rt:151:9
 returns : tie.Need-returns
 unfolding vector
 returns c = simp (c .before .before .told .ensures, c .before .offset .ensures .0, eq-eqb _ _ (c .if1 .taken))
 
--- src/exceptions.rt:153:5
 add-result-2 : tie.Need-add-result-2
 add-result-2 c = search needs
 
--- src/exceptions.rt:145:1
 returns-2 : tie.Need-returns-2
 unfolding vector
 returns-2 c = simp (c .before .before .told .ensures, c .before .offset .ensures .0, ne-eqb _ _ (c .if1 .left))

@@ -1,57 +1,43 @@
+-- By the number; the value is judged on its low word, in Status by `built_status` and in PageMask by `legal_mask`.
 use Rattle.tlb.specs.PageMask.{legalMask}
 use Rattle.cp0.specs.Moves.{checkMove, builtStatus}
 use borrow.Author.Tests.{eq-eqb, ne-eqb}
-use mathlib.Core.Path.{_≡_, refl, sym, ap, _∙_}
+use mathlib.Core.Path.{sym, ap, _∙_}
 use borrow.Author.Needs.{needs}
 use Rattle.cp0.proofs.moves.check_move.Statement.{statement}
 use Rattle.cp0.proofs.moves.check_move.Tie as tie
-use Rattle.cp0.proofs.moves.check_move.Reads as reads
-use Rattle.cp0.proofs.moves.check_move.Lts as lts
-use Rattle.cp0.proofs.moves.built_status.Reads as built-status-reads
-use Rattle.cp0.proofs.registers.low.Reads as low-reads
-use Rattle.cp0.proofs.registers.wide.Reads as wide-reads
-use Rattle.tlb.proofs.legal_mask.Reads as legal-mask-reads
 
--- src/moves.rt:177:9
 low-requires : tie.Need-low-requires
 low-requires c κs = search needs
 
--- src/moves.rt:179:12
 built-status-requires : tie.Need-built-status-requires
 built-status-requires c κs = search needs
 
--- src/moves.rt:180:13
 returns : tie.Need-returns
 unfolding checkMove
 returns c = simp (eq-eqb _ _ (c .before .before .if1 .taken), ap builtStatus (sym (c .before .before .before .low .ensures)) ∙ sym (c .before .built-status .ensures) ∙ c .if2 .taken)
 
--- src/moves.rt:182:9
 returns-2 : tie.Need-returns-2
 unfolding checkMove
 returns-2 c = simp (eq-eqb _ _ (c .before .before .if1 .taken), ap builtStatus (sym (c .before .before .before .low .ensures)) ∙ sym (c .before .built-status .ensures) ∙ c .if2 .left)
 
--- src/moves.rt:185:28
 wide-requires : tie.Need-wide-requires
 wide-requires c κs = search needs
 
--- src/moves.rt:185:12
 legal-mask-requires : tie.Need-legal-mask-requires
 legal-mask-requires c κs = search needs
 
--- src/moves.rt:186:13
 returns-3 : tie.Need-returns-3
 unfolding checkMove
 returns-3 c = simp (ne-eqb _ _ (c .before .before .before .before .if1 .left), eq-eqb _ _ (c .before .before .before .if3 .taken), ap legalMask (sym (c .before .before .wide .ensures ∙ c .before .before .before .before .before .low .ensures)) ∙ sym (c .before .legal-mask .ensures) ∙ c .if4 .taken)
 
--- src/moves.rt:188:9
 returns-4 : tie.Need-returns-4
 unfolding checkMove
 returns-4 c = simp (ne-eqb _ _ (c .before .before .before .before .if1 .left), eq-eqb _ _ (c .before .before .before .if3 .taken), ap legalMask (sym (c .before .before .wide .ensures ∙ c .before .before .before .before .before .low .ensures)) ∙ sym (c .before .legal-mask .ensures) ∙ c .if4 .left)
 
--- src/moves.rt:174:1
 returns-5 : tie.Need-returns-5
 unfolding checkMove
-returns-5 c = simp (c .before .before .low .ensures, ne-eqb _ _ (c .before .if1 .left), ne-eqb _ _ (c .if3 .left))
+returns-5 c = simp (ne-eqb _ _ (c .before .if1 .left), ne-eqb _ _ (c .if3 .left))
 
 pub check-move-spec : {M : Type 1} → statement M
 check-move-spec =

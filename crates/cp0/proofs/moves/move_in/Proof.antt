@@ -1,3 +1,4 @@
+-- By the number: at each key the definition computes to the register that is set.
 use Prim.Native.Nat.{ℕ}
 use mathlib.Core.Path.{sym, ap}
 use borrow.Author.Tests.{ne-eqb}
@@ -6,47 +7,34 @@ use Rattle.cp0.specs.Registers.{set}
 use borrow.Author.Needs.{needs}
 use Rattle.cp0.proofs.moves.move_in.Statement.{statement}
 use Rattle.cp0.proofs.moves.move_in.Tie as tie
-use Rattle.cp0.proofs.moves.move_in.Reads as reads
-use Rattle.cp0.proofs.moves.move_in.Lts as lts
-use Rattle.cp0.proofs.moves.move_word.Reads as move-word-reads
-use Rattle.cp0.proofs.registers.low.Reads as low-reads
 
--- src/moves.rt:133:25
 mul-n : tie.Need-mul-n
 mul-n c = search needs
 
--- src/moves.rt:133:75
 mul-n-2 : tie.Need-mul-n-2
 mul-n-2 c = search needs
 
--- src/moves.rt:133:25
 add-n : tie.Need-add-n
 add-n c = search needs
 
--- src/moves.rt:144:37
 low-requires : tie.Need-low-requires
 low-requires c κs = search needs
 
--- src/moves.rt:144:14
 move-word-requires : tie.Need-move-word-requires
 move-word-requires c κs = search needs
 
--- src/moves.rt:127:1
 returns : tie.Need-returns
 unfolding moveIn set
 returns c = sym (ap (λ (n : ℕ). moveIn (c .before .before .args .cp0) n (c .before .before .args .value)) (c .before .match .keys1))
 
--- src/moves.rt:127:1
 returns-2 : tie.Need-returns-2
 unfolding moveIn set
 returns-2 c = sym (ap (λ (n : ℕ). moveIn (c .before .args .cp0) n (c .before .args .value)) (c .match .keys2))
 
--- src/moves.rt:127:1
 returns-3 : tie.Need-returns-3
 unfolding moveIn set
 returns-3 c = sym (ap (λ (n : ℕ). moveIn (c .before .args .cp0) n (c .before .args .value)) (c .match .keys3))
 
--- src/moves.rt:127:1
 returns-4 : tie.Need-returns-4
 unfolding moveIn set
 returns-4 c = simp (ne-eqb _ _ (c .before .before .match .rest .0 .0 .1), ne-eqb _ _ (c .before .before .match .rest .0 .1), ne-eqb _ _ (c .before .before .match .rest .1), c .before .low .ensures, c .move-word .ensures)

@@ -1,3 +1,4 @@
+-- By the number: at each key the definition computes to the register that is set.
 use Prim.Native.Nat.{ℕ}
 use mathlib.Core.Path.{sym, ap}
 use borrow.Author.Tests.{ne-eqb}
@@ -6,141 +7,104 @@ use Rattle.cp0.specs.Registers.{set}
 use borrow.Author.Needs.{needs}
 use Rattle.cp0.proofs.moves.move_word.Statement.{statement}
 use Rattle.cp0.proofs.moves.move_word.Tie as tie
-use Rattle.cp0.proofs.moves.move_word.Reads as reads
-use Rattle.cp0.proofs.moves.move_word.Lts as lts
-use Rattle.cp0.proofs.registers.kept_entryhi.Reads as kept-entryhi-reads
-use Rattle.cp0.proofs.registers.kept_entrylo.Reads as kept-entrylo-reads
-use Rattle.cp0.proofs.registers.kept_index.Reads as kept-index-reads
-use Rattle.cp0.proofs.registers.kept_status.Reads as kept-status-reads
-use Rattle.cp0.proofs.registers.kept_wired.Reads as kept-wired-reads
-use Rattle.cp0.proofs.registers.wide.Reads as wide-reads
 
--- src/moves.rt:69:13
 kept-index-requires : tie.Need-kept-index-requires
 kept-index-requires c κs = search needs
 
--- src/moves.rt:73:13
 kept-entrylo-requires : tie.Need-kept-entrylo-requires
 kept-entrylo-requires c κs = search needs
 
--- src/moves.rt:77:13
 kept-entrylo-requires-2 : tie.Need-kept-entrylo-requires-2
 kept-entrylo-requires-2 c κs = search needs
 
--- src/moves.rt:85:13
 kept-wired-requires : tie.Need-kept-wired-requires
 kept-wired-requires c κs = search needs
 
--- src/moves.rt:94:38
 wide-requires : tie.Need-wide-requires
 wide-requires c κs = search needs
 
--- src/moves.rt:94:13
 kept-entryhi-requires : tie.Need-kept-entryhi-requires
 kept-entryhi-requires c κs = search needs
 
--- src/moves.rt:99:23
 mul-n : tie.Need-mul-n
 mul-n c = search needs
 
--- src/moves.rt:99:23
 add-n : tie.Need-add-n
 add-n c = search needs
 
--- src/moves.rt:103:13
 kept-status-requires : tie.Need-kept-status-requires
 kept-status-requires c κs = search needs
 
--- src/moves.rt:107:23
 mul-n-2 : tie.Need-mul-n-2
 mul-n-2 c = search needs
 
--- src/moves.rt:107:51
 mul-n-3 : tie.Need-mul-n-3
 mul-n-3 c = search needs
 
--- src/moves.rt:107:23
 add-n-2 : tie.Need-add-n-2
 add-n-2 c = search needs
 
--- src/moves.rt:107:23
 add-n-3 : tie.Need-add-n-3
 add-n-3 c = search needs
 
--- src/moves.rt:111:24
 mul-n-4 : tie.Need-mul-n-4
 mul-n-4 c = search needs
 
--- src/moves.rt:111:24
 add-n-4 : tie.Need-add-n-4
 add-n-4 c = search needs
 
--- src/moves.rt:63:1
 returns : tie.Need-returns
 unfolding moveWord set
 returns c = simp (c .kept-index .ensures) (sym (ap (λ (n : ℕ). moveWord (c .before .before .args .cp0) n (c .before .before .args .w)) (c .before .match .keys1)))
 
--- src/moves.rt:63:1
 returns-2 : tie.Need-returns-2
 unfolding moveWord set
 returns-2 c = simp (c .kept-entrylo .ensures) (sym (ap (λ (n : ℕ). moveWord (c .before .before .args .cp0) n (c .before .before .args .w)) (c .before .match .keys2)))
 
--- src/moves.rt:63:1
 returns-3 : tie.Need-returns-3
 unfolding moveWord set
 returns-3 c = simp (c .kept-entrylo2 .ensures) (sym (ap (λ (n : ℕ). moveWord (c .before .before .args .cp0) n (c .before .before .args .w)) (c .before .match .keys3)))
 
--- src/moves.rt:63:1
 returns-4 : tie.Need-returns-4
 unfolding moveWord set
 returns-4 c = sym (ap (λ (n : ℕ). moveWord (c .before .args .cp0) n (c .before .args .w)) (c .match .keys4))
 
--- src/moves.rt:63:1
 returns-5 : tie.Need-returns-5
 unfolding moveWord set
 returns-5 c = simp (c .kept-wired .ensures) (sym (ap (λ (n : ℕ). moveWord (c .before .before .args .cp0) n (c .before .before .args .w)) (c .before .match .keys5)))
 
--- src/moves.rt:63:1
 returns-6 : tie.Need-returns-6
 unfolding moveWord set
 returns-6 c = sym (ap (λ (n : ℕ). moveWord (c .before .args .cp0) n (c .before .args .w)) (c .match .keys6))
 
--- src/moves.rt:63:1
 returns-7 : tie.Need-returns-7
 unfolding moveWord set
 returns-7 c = simp (c .before .wide .ensures, c .kept-entryhi .ensures) (sym (ap (λ (n : ℕ). moveWord (c .before .before .before .args .cp0) n (c .before .before .before .args .w)) (c .before .before .match .keys7)))
 
--- src/moves.rt:63:1
 returns-8 : tie.Need-returns-8
 unfolding moveWord set
 returns-8 c = sym (ap (λ (n : ℕ). moveWord (c .before .before .before .args .cp0) n (c .before .before .before .args .w)) (c .before .before .match .keys8))
 
--- src/moves.rt:63:1
 returns-9 : tie.Need-returns-9
 unfolding moveWord set
 returns-9 c = simp (c .kept-status .ensures) (sym (ap (λ (n : ℕ). moveWord (c .before .before .args .cp0) n (c .before .before .args .w)) (c .before .match .keys9)))
 
--- src/moves.rt:63:1
 returns-10 : tie.Need-returns-10
 unfolding moveWord set
 returns-10 c = sym (ap (λ (n : ℕ). moveWord (c .before .before .before .args .cp0) n (c .before .before .before .args .w)) (c .before .before .match .keys10))
 
--- src/moves.rt:63:1
 returns-11 : tie.Need-returns-11
 unfolding moveWord set
 returns-11 c = sym (ap (λ (n : ℕ). moveWord (c .before .before .args .cp0) n (c .before .before .args .w)) (c .before .match .keys11))
 
--- src/moves.rt:63:1
 returns-12 : tie.Need-returns-12
 unfolding moveWord set
 returns-12 c = sym (ap (λ (n : ℕ). moveWord (c .before .args .cp0) n (c .before .args .w)) (c .match .keys12))
 
--- src/moves.rt:63:1
 returns-13 : tie.Need-returns-13
 unfolding moveWord set
 returns-13 c = sym (ap (λ (n : ℕ). moveWord (c .before .args .cp0) n (c .before .args .w)) (c .match .keys13))
 
--- src/moves.rt:63:1
 returns-14 : tie.Need-returns-14
 unfolding moveWord set
 returns-14 c = simp (ne-eqb _ _ (c .match .rest .0 .0 .0 .0 .0 .0 .0 .0 .0 .0 .0 .0 .1), ne-eqb _ _ (c .match .rest .0 .0 .0 .0 .0 .0 .0 .0 .0 .0 .0 .1), ne-eqb _ _ (c .match .rest .0 .0 .0 .0 .0 .0 .0 .0 .0 .0 .1), ne-eqb _ _ (c .match .rest .0 .0 .0 .0 .0 .0 .0 .0 .0 .1), ne-eqb _ _ (c .match .rest .0 .0 .0 .0 .0 .0 .0 .0 .1), ne-eqb _ _ (c .match .rest .0 .0 .0 .0 .0 .0 .0 .1), ne-eqb _ _ (c .match .rest .0 .0 .0 .0 .0 .0 .1), ne-eqb _ _ (c .match .rest .0 .0 .0 .0 .0 .1), ne-eqb _ _ (c .match .rest .0 .0 .0 .0 .1), ne-eqb _ _ (c .match .rest .0 .0 .0 .1), ne-eqb _ _ (c .match .rest .0 .0 .1), ne-eqb _ _ (c .match .rest .0 .1), ne-eqb _ _ (c .match .rest .1))

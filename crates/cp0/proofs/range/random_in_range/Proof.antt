@@ -1,21 +1,17 @@
+-- By the two tests; the third is the answer.
 use Rattle.cp0.specs.Range.{randomInRange}
 use borrow.Author.Tests.{le-leb, lt-leb}
 use Rattle.cp0.proofs.range.random_in_range.Statement.{statement}
 use Rattle.cp0.proofs.range.random_in_range.Tie as tie
-use Rattle.cp0.proofs.range.random_in_range.Reads as reads
-use Rattle.cp0.proofs.range.random_in_range.Lts as lts
 
--- src/range.rt:21:13
 returns : tie.Need-returns
 unfolding randomInRange
 returns c = simp (le-leb _ _ (c .before .if1 .taken), le-leb _ _ (c .if2 .taken))
 
--- src/range.rt:23:9
 returns-2 : tie.Need-returns-2
 unfolding randomInRange
 returns-2 c = simp (le-leb _ _ (c .before .if1 .taken), lt-leb _ _ (c .if2 .left))
 
--- src/range.rt:16:1
 returns-3 : tie.Need-returns-3
 unfolding randomInRange
 returns-3 c = simp (lt-leb _ _ (c .if1 .left))

@@ -1,27 +1,20 @@
+-- By the first test; whether it is built is the answer.
 use Rattle.cp0.proofs.Kept.{is-kept, not-kept}
 use Rattle.cp0.specs.Range.{statusInRange}
 use borrow.Author.Needs.{needs}
 use Rattle.cp0.proofs.range.status_in_range.Statement.{statement}
 use Rattle.cp0.proofs.range.status_in_range.Tie as tie
-use Rattle.cp0.proofs.range.status_in_range.Reads as reads
-use Rattle.cp0.proofs.range.status_in_range.Lts as lts
-use Rattle.cp0.proofs.moves.built_status.Reads as built-status-reads
-use Rattle.cp0.proofs.registers.kept_status.Reads as kept-status-reads
 
--- src/range.rt:32:8
 kept-status-requires : tie.Need-kept-status-requires
 kept-status-requires c κs = search needs
 
--- src/range.rt:33:9
 built-status-requires : tie.Need-built-status-requires
 built-status-requires c κs = search needs
 
--- src/range.rt:33:9
 returns : tie.Need-returns
 unfolding statusInRange
 returns c = simp (is-kept _ _ _ (c .before .before .kept-status .ensures) (c .before .if1 .taken), c .built-status .ensures)
 
--- src/range.rt:29:1
 returns-2 : tie.Need-returns-2
 unfolding statusInRange
 returns-2 c = simp (not-kept _ _ _ (c .before .kept-status .ensures) (c .if1 .left))

@@ -1,16 +1,12 @@
+-- Index alone is set.
 use Rattle.cp0.specs.Registers.{probed, set}
 use borrow.Author.Needs.{needs}
 use Rattle.cp0.proofs.registers.probed.Statement.{statement}
 use Rattle.cp0.proofs.registers.probed.Tie as tie
-use Rattle.cp0.proofs.registers.probed.Reads as reads
-use Rattle.cp0.proofs.registers.probed.Lts as lts
-use Rattle.cp0.proofs.registers.low.Reads as low-reads
 
--- src/registers.rt:71:5
 low-requires : tie.Need-low-requires
 low-requires c κs = search needs
 
--- src/registers.rt:67:1
 returns : tie.Need-returns
 unfolding probed set
 returns c = simp (c .low .ensures)

@@ -1,24 +1,18 @@
+-- Four registers are set, as the definition sets them.
 use Rattle.cp0.specs.Registers.{slotRead, set}
 use borrow.Author.Needs.{needs}
 use Rattle.cp0.proofs.registers.slot_read.Statement.{statement}
 use Rattle.cp0.proofs.registers.slot_read.Tie as tie
-use Rattle.cp0.proofs.registers.slot_read.Reads as reads
-use Rattle.cp0.proofs.registers.slot_read.Lts as lts
-use Rattle.cp0.proofs.registers.low.Reads as low-reads
 
--- src/registers.rt:80:5
 low-requires : tie.Need-low-requires
 low-requires c κs = search needs
 
--- src/registers.rt:82:5
 low-requires-2 : tie.Need-low-requires-2
 low-requires-2 c κs = search needs
 
--- src/registers.rt:83:5
 low-requires-3 : tie.Need-low-requires-3
 low-requires-3 c κs = search needs
 
--- src/registers.rt:76:1
 returns : tie.Need-returns
 unfolding slotRead set
 returns c = simp (c .before .before .low .ensures, c .before .low2 .ensures, c .low3 .ensures)

@@ -1,26 +1,21 @@
+-- By the three tests, in the order of the definition.
 use Rattle.cp0.specs.Status.{user}
 use borrow.Author.Tests.{eq-eqb, ne-eqb}
 use Rattle.cp0.proofs.status.user.Statement.{statement}
 use Rattle.cp0.proofs.status.user.Tie as tie
-use Rattle.cp0.proofs.status.user.Reads as reads
-use Rattle.cp0.proofs.status.user.Lts as lts
 
--- src/status.rt:11:9
 returns : tie.Need-returns
 unfolding user
 returns c = simp (ne-eqb _ _ (c .if1 .taken))
 
--- src/status.rt:14:9
 returns-2 : tie.Need-returns-2
 unfolding user
 returns-2 c = simp (eq-eqb _ _ (c .before .if1 .left), eq-eqb _ _ (c .if2 .taken))
 
--- src/status.rt:17:9
 returns-3 : tie.Need-returns-3
 unfolding user
 returns-3 c = simp (eq-eqb _ _ (c .before .before .if1 .left), ne-eqb _ _ (c .before .if2 .left), eq-eqb _ _ (c .if3 .taken))
 
--- src/status.rt:7:1
 returns-4 : tie.Need-returns-4
 unfolding user
 returns-4 c = simp (eq-eqb _ _ (c .before .before .if1 .left), ne-eqb _ _ (c .before .if2 .left), ne-eqb _ _ (c .if3 .left))

@@ -1,29 +1,23 @@
+-- By the test of Count against Compare.
 use Rattle.cp0.specs.Tick.{timed}
 use borrow.Author.Tests.{eq-eqb, ne-eqb}
 use borrow.Author.Needs.{needs}
 use Rattle.cp0.proofs.tick.timed.Statement.{statement}
 use Rattle.cp0.proofs.tick.timed.Tie as tie
-use Rattle.cp0.proofs.tick.timed.Reads as reads
-use Rattle.cp0.proofs.tick.timed.Lts as lts
 
--- src/tick.rt:11:16
 mul-result : tie.Need-mul-result
 mul-result c = search needs
 
--- src/tick.rt:11:16
 add-result : tie.Need-add-result
 add-result c = search needs
 
--- src/tick.rt:11:16
 add-result-2 : tie.Need-add-result-2
 add-result-2 c = search needs
 
--- src/tick.rt:11:9
 returns : tie.Need-returns
 unfolding timed
 returns c = simp (eq-eqb _ _ (c .if1 .taken))
 
--- src/tick.rt:7:1
 returns-2 : tie.Need-returns-2
 unfolding timed
 returns-2 c = simp (ne-eqb _ _ (c .if1 .left))

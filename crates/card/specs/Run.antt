@@ -16,18 +16,22 @@ abbrev pub eights : ℕ → ℕ → ℕ → Bool
 eights least most n = both (eqb (n % 8) 0) (both (leb least n) (leb n most))
 
 -- RAM's length (N2), ROM's (N3), the interrupt lines (N4)
-abbrev pub ramFits : List ℕ → Bool
-ramFits ram = eights 8 16777216 (length ram)
+abbrev pub ramFits : ℕ → Bool
+ramFits n = eights 8 16777216 n
 
-abbrev pub romFits : List ℕ → Bool
-romFits rom = eights 0 4194304 (length rom)
+abbrev pub romFits : ℕ → Bool
+romFits n = eights 0 4194304 n
 
 abbrev pub linesFit : ℕ → Bool
 linesFit lines = leb lines 31
 
 -- the first refusal that applies, 0 for none (N16)
-unfoldable pub refusal : Machine → List ℕ → List ℕ → ℕ → ℕ
-refusal m ram rom lines = pick (ramFits ram) (pick (romFits rom) (pick (linesFit lines) (pick (inRange m) 0 4) 3) 2) 1
+unfoldable pub refusalBy : Machine → ℕ → ℕ → ℕ → ℕ
+refusalBy m ram rom lines = pick (ramFits ram) (pick (romFits rom) (pick (linesFit lines) (pick (inRange m) 0 4) 3) 2) 1
+
+-- of a machine with its memories: their lengths are what counts
+abbrev pub refusal : Machine → List ℕ → List ℕ → ℕ → ℕ
+refusal m ram rom lines = refusalBy m (length ram) (length rom) lines
 
 -- all that a run leaves: the machine, RAM, the counted steps and the number of the table
 pub record Whole : Type 0 where

@@ -1,10 +1,18 @@
 // The card: the machine, one step of it, and a run.
+mod calls;
+mod inner;
 mod range;
+mod runs;
 
+pub use calls::refusal;
 use cp0::Cp0;
 use effect::Cpu;
+pub use inner::core;
+pub use inner::put_reg;
 pub use range::fresh;
 pub use range::in_range;
+pub use runs::run;
+pub use runs::step;
 
 // The whole machine but for its memory; `tlb` holds 48 slots of four numbers.
 pub struct Machine {

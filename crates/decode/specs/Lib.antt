@@ -6,3 +6,4 @@ pub mod Numbers
 pub mod Doubleword
 pub mod Ready
 pub mod Laws
+pub mod Words

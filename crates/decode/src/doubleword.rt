@@ -150,21 +150,21 @@ pub fn is_double(i: Instr) -> bool
         Instr::Store { op, .. } => double_store(op),
         Instr::Arithmetic { op, .. } => double_arithmetic(op),
         Instr::ArithmeticImmediate { op, .. } => double_immediate(op),
-        Instr::Logic { .. } => false,
-        Instr::LogicImmediate { .. } => false,
         Instr::Shift { op, .. } => double_shift(op),
         Instr::ShiftVariable { op, .. } => double_shift_variable(op),
         Instr::Multiply { op, .. } => double_multiply(op),
-        Instr::HiLo { .. } => false,
-        Instr::Branch { .. } => false,
-        Instr::Jump { .. } => false,
-        Instr::JumpRegister { .. } => false,
-        Instr::Trap { .. } => false,
-        Instr::TrapImmediate { .. } => false,
-        Instr::Special(_) => false,
-        Instr::Cache => false,
         Instr::Move { op, .. } => double_move(op),
-        Instr::Tlb(_) => false,
-        Instr::Eret => false,
+        Instr::Logic { .. }
+        | Instr::LogicImmediate { .. }
+        | Instr::HiLo { .. }
+        | Instr::Branch { .. }
+        | Instr::Jump { .. }
+        | Instr::JumpRegister { .. }
+        | Instr::Trap { .. }
+        | Instr::TrapImmediate { .. }
+        | Instr::Special(_)
+        | Instr::Cache
+        | Instr::Tlb(_)
+        | Instr::Eret => false,
     }
 }

@@ -11,26 +11,23 @@ pub fn is_cp0(i: Instr) -> bool
     ensures { λ r. ⌜ r ≡ U.isCp0 i ⌝ }
 {
     match i {
-        Instr::Load { .. } => false,
-        Instr::Store { .. } => false,
-        Instr::Arithmetic { .. } => false,
-        Instr::ArithmeticImmediate { .. } => false,
-        Instr::Logic { .. } => false,
-        Instr::LogicImmediate { .. } => false,
-        Instr::Shift { .. } => false,
-        Instr::ShiftVariable { .. } => false,
-        Instr::Multiply { .. } => false,
-        Instr::HiLo { .. } => false,
-        Instr::Branch { .. } => false,
-        Instr::Jump { .. } => false,
-        Instr::JumpRegister { .. } => false,
-        Instr::Trap { .. } => false,
-        Instr::TrapImmediate { .. } => false,
-        Instr::Special(_) => false,
-        Instr::Cache => true,
-        Instr::Move { .. } => true,
-        Instr::Tlb(_) => true,
-        Instr::Eret => true,
+        Instr::Cache | Instr::Move { .. } | Instr::Tlb(_) | Instr::Eret => true,
+        Instr::Load { .. }
+        | Instr::Store { .. }
+        | Instr::Arithmetic { .. }
+        | Instr::ArithmeticImmediate { .. }
+        | Instr::Logic { .. }
+        | Instr::LogicImmediate { .. }
+        | Instr::Shift { .. }
+        | Instr::ShiftVariable { .. }
+        | Instr::Multiply { .. }
+        | Instr::HiLo { .. }
+        | Instr::Branch { .. }
+        | Instr::Jump { .. }
+        | Instr::JumpRegister { .. }
+        | Instr::Trap { .. }
+        | Instr::TrapImmediate { .. }
+        | Instr::Special(_) => false,
     }
 }
 
@@ -39,26 +36,24 @@ pub fn is_branch(i: Instr) -> bool
     ensures { λ r. ⌜ r ≡ U.isBranch i ⌝ }
 {
     match i {
-        Instr::Load { .. } => false,
-        Instr::Store { .. } => false,
-        Instr::Arithmetic { .. } => false,
-        Instr::ArithmeticImmediate { .. } => false,
-        Instr::Logic { .. } => false,
-        Instr::LogicImmediate { .. } => false,
-        Instr::Shift { .. } => false,
-        Instr::ShiftVariable { .. } => false,
-        Instr::Multiply { .. } => false,
-        Instr::HiLo { .. } => false,
-        Instr::Branch { .. } => true,
-        Instr::Jump { .. } => true,
-        Instr::JumpRegister { .. } => true,
-        Instr::Trap { .. } => false,
-        Instr::TrapImmediate { .. } => false,
-        Instr::Special(_) => false,
-        Instr::Cache => false,
-        Instr::Move { .. } => false,
-        Instr::Tlb(_) => false,
-        Instr::Eret => true,
+        Instr::Branch { .. } | Instr::Jump { .. } | Instr::JumpRegister { .. } | Instr::Eret =>
+            true,
+        Instr::Load { .. }
+        | Instr::Store { .. }
+        | Instr::Arithmetic { .. }
+        | Instr::ArithmeticImmediate { .. }
+        | Instr::Logic { .. }
+        | Instr::LogicImmediate { .. }
+        | Instr::Shift { .. }
+        | Instr::ShiftVariable { .. }
+        | Instr::Multiply { .. }
+        | Instr::HiLo { .. }
+        | Instr::Trap { .. }
+        | Instr::TrapImmediate { .. }
+        | Instr::Special(_)
+        | Instr::Cache
+        | Instr::Move { .. }
+        | Instr::Tlb(_) => false,
     }
 }
 

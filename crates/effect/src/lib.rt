@@ -1,12 +1,16 @@
 // What a step comes to, as numbers only: fetch and access look at memory, nothing here changes it.
+mod access;
 mod after;
+mod asked;
 mod build;
+mod step;
 
 pub use after::cp0_after;
 pub use after::cpu_after;
 use cp0::Exception;
 use memory::PAddr;
 use memory::Store;
+pub use step::effect_of;
 use tlb::Slot;
 use tlb::SlotWrite;
 

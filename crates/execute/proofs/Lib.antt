@@ -1,2 +1,4 @@
--- What is proved besides the functions: that their contracts say all.
+-- What is proved besides the functions: a law of wrapping sums, worked examples, and that no contract admits two results.
+pub mod Wrapping
+pub mod Examples
 pub mod Once

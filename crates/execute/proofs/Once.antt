@@ -13,6 +13,10 @@ use Rattle.execute.proofs.shifts.shift.Kinds as shift-kinds
 use Rattle.execute.proofs.shifts.shift.Reads as shift-reads
 use Rattle.execute.proofs.shifts.shift_variable.Kinds as shift-variable-kinds
 use Rattle.execute.proofs.shifts.shift_variable.Reads as shift-variable-reads
+use Rattle.execute.proofs.multiply.multiply.Kinds as multiply-kinds
+use Rattle.execute.proofs.multiply.multiply.Reads as multiply-reads
+use Rattle.execute.proofs.multiply.move_hi_lo.Kinds as move-hi-lo-kinds
+use Rattle.execute.proofs.multiply.move_hi_lo.Reads as move-hi-lo-reads
 use Rattle.execute.proofs.branches.branch.Kinds as branch-kinds
 use Rattle.execute.proofs.branches.branch.Reads as branch-reads
 use Rattle.execute.proofs.jumps.jump.Kinds as jump-kinds
@@ -39,6 +43,8 @@ use Rattle.execute.proofs.load_store.finish.Kinds as finish-kinds
 use Rattle.execute.proofs.load_store.finish.Reads as finish-reads
 use Rattle.execute.proofs.load_store.goes_out.Kinds as goes-out-kinds
 use Rattle.execute.proofs.load_store.goes_out.Reads as goes-out-reads
+use Rattle.execute.proofs.execute.Kinds as execute-kinds
+use Rattle.execute.proofs.execute.Reads as execute-reads
 
 pub arithmetic-once : Unique arithmetic-kinds.ps arithmetic-kinds.r arithmetic-reads.Pre arithmetic-reads.Post
 arithmetic-once κs a p z₁ z₂ ws₁ ws₂ h₁ h₂ = (same h₁ h₂, refl)
@@ -57,6 +63,12 @@ shift-once κs a p z₁ z₂ ws₁ ws₂ h₁ h₂ = (same h₁ h₂, refl)
 
 pub shift-variable-once : Unique shift-variable-kinds.ps shift-variable-kinds.r shift-variable-reads.Pre shift-variable-reads.Post
 shift-variable-once κs a p z₁ z₂ ws₁ ws₂ h₁ h₂ = (same h₁ h₂, refl)
+
+pub multiply-once : Unique multiply-kinds.ps multiply-kinds.r multiply-reads.Pre multiply-reads.Post
+multiply-once κs a p z₁ z₂ ws₁ ws₂ h₁ h₂ = (same h₁ h₂, refl)
+
+pub move-hi-lo-once : Unique move-hi-lo-kinds.ps move-hi-lo-kinds.r move-hi-lo-reads.Pre move-hi-lo-reads.Post
+move-hi-lo-once κs a p z₁ z₂ ws₁ ws₂ h₁ h₂ = (same h₁ h₂, refl)
 
 pub branch-once : Unique branch-kinds.ps branch-kinds.r branch-reads.Pre branch-reads.Post
 branch-once κs a p z₁ z₂ ws₁ ws₂ h₁ h₂ = (same h₁ h₂, refl)
@@ -96,3 +108,6 @@ finish-once κs a p z₁ z₂ ws₁ ws₂ h₁ h₂ = (same h₁ h₂, refl)
 
 pub goes-out-once : Unique goes-out-kinds.ps goes-out-kinds.r goes-out-reads.Pre goes-out-reads.Post
 goes-out-once κs a p z₁ z₂ ws₁ ws₂ h₁ h₂ = (same h₁ h₂, refl)
+
+pub execute-once : Unique execute-kinds.ps execute-kinds.r execute-reads.Pre execute-reads.Post
+execute-once κs a p z₁ z₂ ws₁ ws₂ h₁ h₂ = (same h₁ h₂, refl)

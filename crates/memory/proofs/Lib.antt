@@ -4,3 +4,4 @@ pub mod Tables
 pub mod Runs
 pub mod Spans
 pub mod Right
+pub mod Once

@@ -12,7 +12,7 @@ unfoldable pub bytesOf : ℕ → ℕ → List ℕ
 bytesOf zero x = []
 bytesOf (suc n) x = byte x n ∷ bytesOf n x
 
--- the number that eight bytes are, the first on top (C3)
+-- eight bytes, each at its weight, the first on top (C3)
 abbrev pub eightSum : List ℕ → ℕ
 eightSum l =
     getD l 0 0 * 2 ^ 56
@@ -24,6 +24,7 @@ eightSum l =
     + getD l 6 0 * 2 ^ 8
     + getD l 7 0
 
+-- the number that eight bytes are (C3)
 unfoldable pub eightOf : List ℕ → ℕ
 eightOf l = eightSum l
 

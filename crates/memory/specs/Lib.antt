@@ -8,3 +8,4 @@ pub mod Stores
 pub mod MemoryLaws
 pub mod StoreLaws
 pub mod LoadLaws
+pub mod Landings

@@ -1,5 +1,5 @@
 -- Memory: RAM from physical 0 and ROM from 1FC00000, read as the eight aligned bytes that hold an address.
-use Prim.Native.Nat.{ℕ, _-_, _*_, _/_}
+use Prim.Native.Nat.{ℕ, _+_, _-_, _*_, _/_}
 use mathlib.Core.List.{List, []}
 use mathlib.Core.Bool.{Bool}
 use lib.Dec.{leb, ltb}
@@ -30,7 +30,17 @@ eightAt l a = take 8 (drop (a / 8 * 8) l)
 unfoldable pub part : List ℕ → List ℕ → PAddr → List ℕ
 part ram rom p = pick (inRam ram p) (eightAt ram (p .0)) (pick (inRom rom p) (eightAt rom (p .0 - romBase)) [])
 
--- the same as one number, and whose it is: all that a step sees of memory (D8, D9, D10)
+-- `far` bytes on from a pointer, which is a block and an offset in it
+abbrev pub further : ℕ × ℕ → ℕ → ℕ × ℕ
+further at far = (at .0, far + at .1)
+
+-- where they stand: among the bytes of RAM or of ROM themselves, so nothing is copied; an empty part stands where RAM starts (D10)
+unfoldable pub place : ℕ × ℕ → ℕ × ℕ → List ℕ → List ℕ → PAddr → ℕ × ℕ
+place ramAt romAt ram rom p =
+    pick (inRam ram p) (further ramAt (p .0 / 8 * 8))
+    (pick (inRom rom p) (further romAt ((p .0 - romBase) / 8 * 8)) (further ramAt 0))
+
+-- the part as one number, and whose it is: all that a step sees of memory (D8, D9, D10)
 unfoldable pub read : List ℕ → List ℕ → PAddr → Eight
 read ram rom p =
     pick (inRam ram p) (Ram (eightOf (part ram rom p))) (pick (inRom rom p) (Rom (eightOf (part ram rom p))) Missing)

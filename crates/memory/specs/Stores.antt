@@ -13,16 +13,19 @@ use Rattle.memory.specs.declared.Put.the-variants.{Done, BusError}
 use Rattle.memory.specs.Bytes.{bytesOf}
 use Rattle.memory.specs.Memory.{inRam}
 
--- SB, SH, SW and SD: the low bytes of the register, from p on (C4)
+-- SB: the low byte of the register (C4)
 abbrev pub sb : PAddr → ℕ → Store
 sb p value = Write p 1 value
 
+-- SH: the low halfword (C4)
 abbrev pub sh : PAddr → ℕ → Store
 sh p value = Write p 2 value
 
+-- SW: the low word (C4)
 abbrev pub sw : PAddr → ℕ → Store
 sw p value = Write p 4 value
 
+-- SD: the doubleword (C4)
 abbrev pub sd : PAddr → ℕ → Store
 sd p value = Write p 8 value
 
@@ -34,19 +37,23 @@ storeLeft size p value = Write p (size - p .0 % size) (value / 2 ^ (8 * (p .0 % 
 abbrev pub storeRight : ℕ → PAddr → ℕ → Store
 storeRight size p value = Write (record { 0 = p .0 / size * size }) (p .0 % size + 1) value
 
+-- SWL: left of a word (C4)
 abbrev pub swl : PAddr → ℕ → Store
 swl p value = storeLeft 4 p value
 
+-- SWR: right of a word (C4)
 abbrev pub swr : PAddr → ℕ → Store
 swr p value = storeRight 4 p value
 
+-- SDL: left of a doubleword (C4)
 abbrev pub sdl : PAddr → ℕ → Store
 sdl p value = storeLeft 8 p value
 
+-- SDR: right of a doubleword (C4)
 abbrev pub sdr : PAddr → ℕ → Store
 sdr p value = storeRight 8 p value
 
--- a store lands where RAM has the place, and at least one byte, all within the eight aligned ones, goes out
+-- a store lands where RAM has the place and one to eight bytes go out, all within the eight aligned ones (D9)
 abbrev pub lands : List ℕ → PAddr → ℕ → Bool
 lands ram to size = both (inRam ram to) (both (leb 1 size) (leb (to .0 % 8 + size) 8))
 

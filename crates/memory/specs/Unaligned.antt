@@ -15,16 +15,18 @@ left size n p old = withBytes old (p .0 % size) (size - p .0 % size) (field size
 abbrev pub right : ℕ → ℕ → PAddr → ℕ → ℕ
 right size n p old = withBytes old 0 (p .0 % size + 1) (field size n p / 2 ^ (8 * (size - 1 - p .0 % size)))
 
--- LWL extends the sign from bit 31 (A12)
+-- LWL: left of a word, the sign extended from bit 31 (A12)
 unfoldable pub lwl : ℕ → PAddr → ℕ → ℕ
 lwl n p old = extend (left 4 n p old)
 
--- LWR does so where it is full; a partial one keeps the upper 32 bits (A12, house)
+-- LWR: right of a word; a full one extends the sign from bit 31, a partial one keeps the upper 32 bits (A12, house)
 unfoldable pub lwr : ℕ → PAddr → ℕ → ℕ
 lwr n p old = pick (eqb (p .0 % 4) 3) (extend (right 4 n p old)) (right 4 n p old)
 
+-- LDL: left of a doubleword (C4)
 unfoldable pub ldl : ℕ → PAddr → ℕ → ℕ
 ldl n p old = left 8 n p old
 
+-- LDR: right of a doubleword (C4)
 unfoldable pub ldr : ℕ → PAddr → ℕ → ℕ
 ldr n p old = right 8 n p old

@@ -1,6 +1,7 @@
 // Memory: RAM from physical 0, ROM from 1FC00000, both big-endian.
 ghost use mathlib.Core.Path.{_≡_};
 ghost use Prim.Native.Nat.{_+_, _*_, _<_, _≤_, _^_};
+ghost use denote.Ref.{ptr};
 ghost use lib.ListN.{length};
 ghost use Rattle.memory.specs.Bytes as B;
 ghost use Rattle.memory.specs.Memory as M;
@@ -95,7 +96,7 @@ fn byte(x: u64, k: u64) -> u8
 
 // The eight aligned bytes that hold an address, as a part of RAM or of ROM; an empty part elsewhere.
 pub fn part<'a>(ram: &'a [u8], rom: &'a [u8], p: PAddr) -> &'a [u8]
-    ensures { λ r. ⌜ now r ≡ M.part (now (ram .entry)) (now (rom .entry)) p ⌝ }
+    ensures { λ r. ⌜ (now r ≡ M.part (now (ram .entry)) (now (rom .entry)) p) × (ptr r ≡ M.place (ptr (ram .entry)) (ptr (rom .entry)) (now (ram .entry)) (now (rom .entry)) p) ⌝ }
 {
     let at = p.0;
     let k = (at / 8) as usize;
@@ -109,7 +110,7 @@ pub fn part<'a>(ram: &'a [u8], rom: &'a [u8], p: PAddr) -> &'a [u8]
     if j < rom.len() / 8 {
         return &rom[j * 8..j * 8 + 8];
     }
-    &rom[0..0]
+    &ram[0..0]
 }
 
 // The same as one number, with whose it is.

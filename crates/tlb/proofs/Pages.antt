@@ -4,10 +4,9 @@ use mathlib.Core.Path.{_≡_, refl, sym, ap, _∙_}
 use mathlib.Core.Logic.{_⊎_, inl, inr}
 use native.Mathlib.Nat.{pow-suc, mod-eq-of-lt, mod-lt, le-trans, mul-le-mul-right, sub-add-cancel}
 use native.Mathlib.Omega.{arith}
-use native.Mathlib.Numerals.{add-one}
 use lib.Bits.{bitAnd, and-mask}
-use lib.Count.{ones, trailingZeros, under, ones-step, ones-le, trailing-le}
-use lib.Pow.{pow-pos, pow-mono, pow-add, pow-lt, shr-lt, mod-pow-add}
+use lib.Count.{ones, trailingZeros, ones-step, ones-le, trailing-le}
+use lib.Pow.{pow-pos, pow-add, pow-lt, shr-lt}
 use Rattle.tlb.specs.PageMask.{trailingOnes, run, pageBits, pageBytes}
 use Rattle.tlb.specs.Slot.{frame}
 use Rattle.tlb.specs.Translate.{physical}

@@ -1,9 +1,8 @@
 -- A write changes its slot alone.
-use Prim.Native.Nat.{ℕ, zero, suc, _+_, _-_, _*_, _/_, _%_, _^_, _<_, _≤_}
-use mathlib.Core.Path.{_≡_, refl, sym, ap, ap₂, _∙_}
+use Prim.Native.Nat.{ℕ, _+_, _*_, _/_, _<_}
+use mathlib.Core.Path.{_≡_, refl, _∙_}
 use mathlib.Core.Bool.{Bool, true, false}
 use mathlib.Core.List.{List}
-use native.Mathlib.Decide.{decLt}
 use native.Mathlib.Omega.{arith}
 use lib.Dec.{ltb}
 use lib.ListN.{length, getD, set, length-set}
@@ -13,7 +12,7 @@ use Rattle.promise.specs.Pick.{pick}
 use Rattle.tlb.specs.declared.Slot.{Slot}
 use Rattle.tlb.specs.declared.SlotWrite.{SlotWrite}
 use Rattle.tlb.specs.declared.SlotWrite.the-variants.{Keep, Put}
-use Rattle.tlb.specs.Slot.{slot, slotAt, setSlot, putSlot, stored}
+use Rattle.tlb.specs.Slot.{slotAt, setSlot, putSlot, stored}
 
 module _ (tlb : List ℕ) (i : ℕ) (s : Slot) where
   pub length-set-slot : length (setSlot tlb i s) ≡ length tlb

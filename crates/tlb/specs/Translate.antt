@@ -1,9 +1,8 @@
 -- Where a mapped address leads: through the half of the one slot that matches it.
-use Prim.Native.Nat.{ℕ, _+_, _-_, _*_, _/_, _%_, _^_}
-use mathlib.Core.Bool.{Bool}
+use Prim.Native.Nat.{ℕ, _+_, _*_, _/_, _%_, _^_}
 use mathlib.Core.List.{List}
 use lib.Dec.{eqb}
-use Rattle.promise.specs.Bits.{bit, bits, set?}
+use Rattle.promise.specs.Bits.{bit}
 use Rattle.promise.specs.Pick.{pick}
 use Rattle.memory.specs.declared.PAddr.{PAddr}
 use Rattle.tlb.specs.declared.VAddr.{VAddr}
@@ -17,10 +16,11 @@ use Rattle.tlb.specs.PageMask.{trailingOnes, run, pageBits, pageBytes}
 use Rattle.tlb.specs.Slot.{slotAt, frame, cacheOf, dirtyOf, validOf}
 use Rattle.tlb.specs.Match.{lookup}
 
--- addresses of either kind, by their number
+-- the virtual address of a number (D1)
 abbrev pub vaddr : ℕ → VAddr
 vaddr v = record { 0 = v }
 
+-- the physical address of a number (D1)
 abbrev pub paddr : ℕ → PAddr
 paddr p = record { 0 = p }
 

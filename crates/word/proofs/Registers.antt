@@ -1,12 +1,12 @@
 -- Registers and numbers, over the width: which register holds a number, and what the code of sign extension gives.
 use mathlib.Core.Path.{_≡_, refl, sym, ap, _∙_}
 use mathlib.Core.Bool.{Bool, true, false}
-use Prim.Native.Nat.{ℕ, zero, suc, _+_, _-_, _*_, _/_, _%_, _^_, _≤_, _<_}
+use Prim.Native.Nat.{ℕ, suc, _+_, _-_, _%_, _^_, _≤_, _<_}
 use native.Mathlib.Nat.{mod-eq-of-lt, mod-lt}
 use native.Mathlib.Omega.{arith}
 use borrow.Author.Tests.{le-ltb, lt-ltb, ltb-true, ltb-false}
 use lib.Dec.{ltb}
-use lib.IntN.{ℤ, pos, negsuc}
+use lib.IntN.{ℤ, pos, negsuc, natAbs}
 use lib.Pow.{pow-pos}
 use lib.Signed.{mag}
 use mir.Syntax.{Width, w64}
@@ -36,6 +36,12 @@ holds w z n e = ap (λ (k : ℕ). ofZ w64 (toZ w k)) e
 -- a doubleword is its own low bits and its own extension
 pub low-whole : (n : ℕ) → Fits w64 n → low w64 n ≡ n
 low-whole n f = mod-eq-of-lt (f .fits)
+
+pub below-half : (n : ℕ) → Fits w64 n → n < 2 ^ 63 → low w64 n < 2 ^ 63
+below-half n f h = rw (low-whole n f) h
+
+pub above-half : (n : ℕ) → Fits w64 n → 2 ^ 63 ≤ n → 2 ^ 63 ≤ low w64 n
+above-half n f h = rw (low-whole n f) h
 
 pub whole : (n : ℕ) → n < 2 ^ 64 → n ≡ extend w64 n
 unfolding extend
@@ -76,3 +82,10 @@ sign w x h = go (ltb (low w x) (2 ^ hbits w)) refl
 pub extended-number : (w : Width) (x : ℕ) → 2 ^ bits w ≤ 2 ^ 64 → toZ w64 (extend w x) ≡ signed w x
 unfolding extend
 extended-number w x h = toZ-ofZ w64 (signed w x) (record { sfits = omega (arith, signed-fits w x .sfits, pow-bits w) })
+
+-- the magnitude of the number that the low bits are
+pub magnitude-low : (w : Width) (x : ℕ) → low w x < 2 ^ hbits w → low w x ≡ natAbs (signed w x)
+magnitude-low w x h = rw (toZ-pos w (low w x) h)
+
+pub magnitude-high : (w : Width) (x : ℕ) → 2 ^ hbits w ≤ low w x → 2 ^ bits w - 1 - low w x + 1 ≡ natAbs (signed w x)
+magnitude-high w x h = rw (toZ-high w (low w x) h) (omega (arith, mod-lt x (pow-pos (bits w))))

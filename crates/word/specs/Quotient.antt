@@ -1,21 +1,32 @@
 -- Quotients over the width: the quotient in LO, the remainder in HI. Signed and unsigned forms differ only in how the registers are read.
-use Prim.Native.Nat.{ℕ}
-use lib.IntN.{ℤ, natAbs}
+use Prim.Native.Nat.{ℕ, suc, _/_, _%_}
+use lib.IntN.{ℤ, pos, negsuc, negℤ, natAbs}
 use lib.Dec.{eqb}
-use lib.Signed.{quotZ, remZ}
 use mir.Syntax.{Width}
 use Rattle.promise.specs.Pick.{pick}
 use Rattle.word.specs.declared.HiLo.{HiLo}
 use Rattle.word.specs.Extend.{unsigned, signed, register}
 
+-- the quotient cut toward zero: that of the magnitudes, below zero where the signs differ (A6)
+abbrev pub towardZero : ℤ → ℤ → ℤ
+towardZero (pos a) (pos b) = pos (a / b)
+towardZero (pos a) (negsuc b) = negℤ (pos (a / suc b))
+towardZero (negsuc a) (pos b) = negℤ (pos (suc a / b))
+towardZero (negsuc a) (negsuc b) = pos (suc a / suc b)
+
+-- the remainder: that of the magnitudes, with the dividend's sign (A6)
+abbrev pub remainder : ℤ → ℤ → ℤ
+remainder (pos a) y = pos (a % natAbs y)
+remainder (negsuc a) y = negℤ (pos (suc a % natAbs y))
+
 -- a zero divisor, of a dividend as it is read: LO = HI = 0 (A8, house)
 unfoldable pub byZero : Width → ℤ → HiLo
 byZero w dividend = record { hi = 0; lo = 0 }
 
--- the quotient cut toward zero, and the remainder with the dividend's sign, each cut to the width (A6);
+-- the quotient in LO and the remainder in HI, each cut to the width (A6);
 -- so the most negative number by -1 gives itself and 0 (A7, house)
 unfoldable pub divided : Width → ℤ → ℤ → HiLo
-divided w x y = pick (eqb (natAbs y) 0) (byZero w x) (record { hi = register w (remZ x y); lo = register w (quotZ x y) })
+divided w x y = pick (eqb (natAbs y) 0) (byZero w x) (record { hi = register w (remainder x y); lo = register w (towardZero x y) })
 
 -- of two registers read as signed numbers
 unfoldable pub quotient : Width → ℕ → ℕ → HiLo

@@ -1,6 +1,8 @@
 // The arithmetic of words and doublewords, on the numbers that registers hold.
 mod comparisons; // comparisons.rt: SLT and the trap comparisons
 mod logic; // logic.rt: AND, OR, XOR, NOR and LUI
+mod products; // products.rt: MULT and its kin
+mod quotients; // quotients.rt: DIV and its kin
 mod reading; // reading.rt: low bits, sign extension, and signed numbers
 mod shifts; // shifts.rt: shifts of words and doublewords
 mod sums; // sums.rt: sums and differences, wrapped or tested for overflow
@@ -18,6 +20,14 @@ pub use logic::lui;
 pub use logic::nor;
 pub use logic::or;
 pub use logic::xor;
+pub use products::dmult;
+pub use products::dmultu;
+pub use products::mult;
+pub use products::multu;
+pub use quotients::ddiv;
+pub use quotients::ddivu;
+pub use quotients::div;
+pub use quotients::divu;
 pub use reading::extend;
 pub use reading::extend_byte;
 pub use reading::extend_half;

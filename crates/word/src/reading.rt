@@ -1,5 +1,6 @@
 // Low bits of a register, sign extension, and the signed numbers that registers are.
 ghost use mathlib.Core.Path.{_≡_};
+ghost use lib.IntN.{natAbs};
 ghost use mir.Syntax.{w32, w64};
 ghost use mir.Val.{ofZ};
 ghost use Rattle.word.specs.Extend.{signed};
@@ -75,6 +76,17 @@ pub fn signed32(x: u64) -> i32
         low as i32
     } else {
         -1 - ((0xffff_ffff - low) as i32)
+    }
+}
+
+// The magnitude of a doubleword, read as signed.
+pub fn magnitude(x: u64) -> u64
+    ensures { λ r. ⌜ r ≡ natAbs (signed w64 x) ⌝ }
+{
+    if x < 0x8000_0000_0000_0000 {
+        x
+    } else {
+        0xffff_ffff_ffff_ffff - x + 1
     }
 }
 

@@ -1,0 +1,32 @@
+-- The division of whole registers is that of their low bits.
+use mathlib.Core.Path.{sym, _∙_}
+use Prim.Native.Nat.{_/_, _%_}
+use native.Mathlib.Omega.{arith}
+use native.Mathlib.Nat.{div-le-self, mod-le}
+use mir.Syntax.{w64}
+use Rattle.word.specs.Extend.{extend}
+use Rattle.word.proofs.Registers.{whole, low-whole}
+use Rattle.word.proofs.QuotientLaws.{by-zero-unsigned, gives-unsigned}
+use borrow.Author.Needs.{needs}
+use Rattle.word.proofs.quotients.ddivu.Statement.{statement}
+use Rattle.word.proofs.quotients.ddivu.Tie as tie
+
+returns : tie.Need-returns
+returns c = by-zero-unsigned w64 (c .before .args .a) (c .before .args .b) (omega (arith, c .if1 .taken))
+
+rem-t4 : tie.Need-rem-t4
+rem-t4 c = search needs
+
+div-t5 : tie.Need-div-t5
+div-t5 c = search needs
+
+returns-2 : tie.Need-returns-2
+returns-2 c = let s = c .before in
+    let a = s .args .a in
+    let b = s .args .b in
+    gives-unsigned w64 a b _ _ (λ e. c .if1 .left (sym (low-whole b (s .fits .b)) ∙ e))
+    (whole (a % b) (omega (arith, mod-le a b)) ∙ (λ i. extend w64 (sym (low-whole a (s .fits .a)) i % sym (low-whole b (s .fits .b)) i)))
+    (whole (a / b) (omega (arith, div-le-self a b)) ∙ (λ i. extend w64 (sym (low-whole a (s .fits .a)) i / sym (low-whole b (s .fits .b)) i)))
+
+pub ddivu-spec : {M : Type 1} → statement M
+ddivu-spec = tie.close (tie.spec returns rem-t4 div-t5 returns-2)

@@ -2,3 +2,4 @@
 pub mod Turns
 pub mod Reading
 pub mod Once
+pub mod InRange

@@ -2,7 +2,6 @@
 use Prim.Native.Nat.{ℕ, _<_}
 use native.Mathlib.Omega.{arith}
 use mathlib.Core.Bool.{Bool, true, false}
-use Rattle.promise.specs.Pick.{pick}
 use Rattle.word.specs.declared.Sum.{Sum}
 use Rattle.word.specs.declared.Sum.the-variants.{Fits, Overflow}
 use Rattle.decode.specs.declared.Instr.{Instr}

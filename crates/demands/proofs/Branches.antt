@@ -1,9 +1,9 @@
 -- What goes on is not in a slot and what is in a slot does not: stop 17 by the tests of the decoder, one after the other.
 use Prim.Native.Nat.{ℕ}
 use native.Mathlib.Omega.{arith}
-use mathlib.Core.Path.{_≡_, refl, sym, _∙_}
+use mathlib.Core.Path.{_≡_, refl}
 use mathlib.Core.Bool.{Bool, true, false}
-use Rattle.promise.specs.Pick.{pick, both}
+use Rattle.promise.specs.Pick.{both}
 use Rattle.decode.specs.declared.Instr.{Instr}
 use Rattle.decode.specs.declared.Instr.the-variants as instr
 use Rattle.decode.specs.declared.Decoded.{Decoded}

@@ -1,9 +1,8 @@
 -- Document 01's program of two instructions, run by computation: ADDIU r8, r0, 5 and ADDU r9, r8, r8 from 80000000 (I16).
 use Prim.Native.Nat.{ℕ}
 use mathlib.Core.Path.{_≡_, refl}
-use mathlib.Core.Bool.{true, false}
-use mathlib.Core.List.{List, [], _∷_}
-use lib.Bits.{bitAnd}
+use mathlib.Core.Bool.{false}
+use mathlib.Core.List.{[], _∷_}
 use lib.Count.{ones, onesIn, trailingZeros}
 use lib.ListN.{getD, replicate}
 use Rattle.word.specs.Extend.{extend, register}

@@ -1,7 +1,7 @@
 -- The test of refusal 4, taken apart and put together again, test by test.
-use Prim.Native.Nat.{ℕ, _%_, _^_, _<_, _≤_}
+use Prim.Native.Nat.{ℕ, _≤_}
 use native.Mathlib.Omega.{arith}
-use mathlib.Core.Path.{_≡_, refl, sym, _∙_, ap}
+use mathlib.Core.Path.{_≡_, refl}
 use mathlib.Core.Bool.{Bool, true, false}
 use lib.Dec.{eqb, leb}
 use lib.ListN.{getD}
@@ -11,9 +11,8 @@ use Rattle.tlb.specs.declared.Slot.{Slot}
 use Rattle.tlb.specs.Slot.{slotAt}
 use Rattle.tlb.specs.Range.{hiInRange, loInRange, slotInRange, tlbInRange}
 use Rattle.tlb.proofs.StaysInRange.{in-range-each, each-in-range}
-use Rattle.cp0.specs.declared.Cp0.{Cp0}
 use Rattle.cp0.specs.Range.{randomInRange, statusInRange, configInRange, cp0InRange}
-use Rattle.cp0.proofs.InRange.{InRange, range-read, range-made, split, join}
+use Rattle.cp0.proofs.InRange.{range-read, range-made, split, join}
 use Rattle.effect.specs.declared.Cpu.{Cpu}
 use Rattle.card.specs.declared.Machine.{Machine}
 use Rattle.card.specs.Machine.{cpuInRange, inRange}

@@ -1,14 +1,13 @@
 -- What a step comes to keeps a machine in its range: the register that it writes is none or below 32, and what it does to CP0 and the TLB is of the kinds that keep these in range.
-use Prim.Native.Nat.{ℕ, _+_, _%_, _^_, _<_}
+use Prim.Native.Nat.{ℕ, _<_}
 use native.Mathlib.Omega.{arith}
-use mathlib.Core.Path.{_≡_, refl, sym, _∙_, ap, subst}
+use mathlib.Core.Path.{_≡_, refl}
 use mathlib.Core.Bool.{Bool, true, false}
 use mathlib.Core.List.{List}
 use lib.Dec.{eqb, ltb}
-use lib.ListN.{getD, length, set, length-set}
-use lib.Seq.{getD-set-other}
-use borrow.Author.Tests.{ltb-true, eq-eqb, eqb-true, eqb-false}
-use Rattle.promise.specs.Pick.{pick, both, either}
+use lib.ListN.{getD}
+use borrow.Author.Tests.{ltb-true}
+use Rattle.promise.specs.Pick.{pick}
 use Rattle.memory.specs.declared.PAddr.{PAddr}
 use Rattle.memory.specs.declared.Eight.{Eight}
 use Rattle.memory.specs.declared.Eight.the-variants.{Ram, Rom, Missing}
@@ -19,11 +18,8 @@ use Rattle.tlb.specs.declared.Where.{Where}
 use Rattle.tlb.specs.declared.Where.the-variants.{Mapped, Unmapped, Invalid, Refill, Double, AddressError}
 use Rattle.tlb.specs.declared.Found.{Found}
 use Rattle.tlb.specs.declared.Found.the-variants.{Absent, One, Many}
-use Rattle.tlb.specs.declared.SlotWrite.{SlotWrite}
 use Rattle.tlb.specs.declared.SlotWrite.the-variants.{Keep, Put}
-use Rattle.tlb.specs.declared.SlotRead.{SlotRead}
 use Rattle.tlb.specs.declared.SlotRead.the-variants as slotRead
-use Rattle.tlb.specs.declared.Probe.{Probe}
 use Rattle.tlb.specs.declared.Probe.the-variants as probed
 use Rattle.tlb.specs.Slot.{asidOf, slotAt, shown, readSlot}
 use Rattle.tlb.specs.Match.{lookup}
@@ -38,8 +34,7 @@ use Rattle.cp0.specs.declared.Exception.{Exception}
 use Rattle.cp0.specs.declared.Exception.the-variants.{Int, Mod}
 use Rattle.cp0.specs.declared.Move.{Move}
 use Rattle.cp0.specs.declared.Move.the-variants.{Built, NotBuilt}
-use Rattle.cp0.specs.Registers.{keptIndex, linked}
-use Rattle.cp0.specs.Registers as registers
+use Rattle.cp0.specs.Registers.{keptIndex}
 use Rattle.cp0.specs.Status.{interrupted, user, CU0}
 use Rattle.cp0.specs.Moves.{checkMove}
 use Rattle.cp0.specs.Range.{cp0InRange}
@@ -48,8 +43,6 @@ use Rattle.cp0.proofs.KeepsRange.{linked-in-range, index-found, index-absent, p
 use Rattle.cp0.proofs.KeepsRandom.{ended-in-range}
 use Rattle.cp0.proofs.KeepsMoves.{moved-in-range}
 use Rattle.cp0.proofs.KeepsSlots.{slot-read-in-range}
-use Rattle.decode.specs.declared.Instr.{Instr}
-use Rattle.decode.specs.declared.Instr.the-variants as instr
 use Rattle.decode.specs.declared.LoadOp.{LoadOp}
 use Rattle.decode.specs.declared.LoadOp.the-variants as load
 use Rattle.decode.specs.declared.StoreOp.{StoreOp}
@@ -66,17 +59,16 @@ use Rattle.execute.specs.declared.Command.{Command}
 use Rattle.execute.specs.declared.Command.the-variants as command
 use Rattle.execute.specs.declared.Executed.{Executed}
 use Rattle.execute.specs.declared.Executed.the-variants as done
-use Rattle.execute.specs.Execute.{execute}
 use Rattle.effect.specs.declared.Cpu.{Cpu}
 use Rattle.effect.specs.declared.Turn.{Turn}
 use Rattle.effect.specs.declared.Turn.the-variants as turn
 use Rattle.effect.specs.declared.Effect.{Effect}
 use Rattle.effect.specs.Effect.{effects, turned, wrote, raised, stopped}
-use Rattle.effect.specs.Access.{linking, got, loaded, linkBit, ifLinked, sending, sent, saved}
+use Rattle.effect.specs.Access.{linking, got, loaded, sending, sent, saved}
 use Rattle.effect.specs.Step as step
 use Rattle.effect.specs.Step.{leads, moved, fromSlot, fromProbe, tlbDone, movedTo, asked, commanded, executed, readied, begun, fetched, effectOf}
 use Rattle.effect.specs.After.{cp0After}
-use Rattle.demands.proofs.Writes.{target, goes-small}
+use Rattle.demands.proofs.Writes.{goes-small}
 use Rattle.demands.proofs.Acts.{Low, lows, low-executed}
 
 -- a turn that leaves CP0 in range

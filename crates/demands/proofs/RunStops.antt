@@ -1,10 +1,9 @@
 -- The stops of a run, from the way that its steps end.
-use Prim.Native.Nat.{ℕ, _≤_, _<_}
+use Prim.Native.Nat.{ℕ, _≤_}
 use native.Mathlib.Omega.{arith}
 use native.Mathlib.Decide.{decLe}
-use mathlib.Core.Path.{_≡_, refl, sym, _∙_, ap, subst}
-use mathlib.Core.Logic.{_↔_, _⊎_, inl, inr}
-use Rattle.card.specs.declared.Machine.{Machine}
+use mathlib.Core.Path.{_≡_, sym, _∙_, ap}
+use mathlib.Core.Logic.{_⊎_, inl, inr}
 use Rattle.card.specs.Run.{Whole}
 use Rattle.demands.specs.Call.{Call, run}
 use Rattle.demands.specs.Refusals.{Accepted}

@@ -1,17 +1,17 @@
 -- How a run goes, by induction over its steps: all of them go on, or one stops and what the steps before it left stays.
-use Prim.Native.Nat.{ℕ, zero, suc, _+_, _-_, _<_, _≤_}
+use Prim.Native.Nat.{ℕ, zero, suc, _+_, _-_, _<_}
 use native.Mathlib.Nat.{zero-add, suc-add, add-assoc}
 use native.Mathlib.Omega.{arith}
-use mathlib.Core.Path.{_≡_, refl, sym, _∙_, ap, subst}
+use mathlib.Core.Path.{_≡_, refl, sym, _∙_, ap}
 use mathlib.Core.Bool.{Bool, true, false}
 use mathlib.Core.List.{List}
 use mathlib.Core.Logic.{_⊎_, inl, inr}
 use lib.Dec.{eqb}
-use borrow.Author.Tests.{eqb-true, eqb-false, eq-eqb, ne-eqb}
+use borrow.Author.Tests.{eqb-false, ne-eqb}
 use Rattle.promise.specs.Pick.{pick}
 use Rattle.card.specs.declared.Machine.{Machine}
-use Rattle.card.specs.Step.{Out, out, stepOf}
-use Rattle.card.specs.Run.{Whole, whole, plus, following, steps}
+use Rattle.card.specs.Step.{Out, stepOf}
+use Rattle.card.specs.Run.{Whole, whole, plus, steps}
 use Rattle.demands.specs.Runs.{resumed, InParts}
 use Rattle.demands.proofs.StepStops.{stopped-kept}
 

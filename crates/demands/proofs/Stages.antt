@@ -1,25 +1,21 @@
 -- How far a step comes, stage by stage: what is known of its fetch and its word says which stage its effect is that of.
 use Prim.Native.Nat.{ℕ}
 use mathlib.Core.Path.{_≡_, refl, sym, _∙_, ap}
-use mathlib.Core.Bool.{Bool, true, false}
 use mathlib.Core.List.{List}
-use lib.Dec.{eqb}
 use lib.ListN.{getD}
 use borrow.Author.Tests.{eq-eqb}
 use Rattle.memory.specs.declared.PAddr.{PAddr}
 use Rattle.memory.specs.declared.Eight.{Eight}
-use Rattle.memory.specs.declared.Eight.the-variants.{Ram, Rom}
 use Rattle.memory.specs.Memory.{read}
 use Rattle.memory.specs.Loads.{lwu}
 use Rattle.tlb.specs.declared.Where.{Where}
-use Rattle.tlb.specs.declared.Where.the-variants.{Mapped, Unmapped}
 use Rattle.tlb.specs.Translate.{vaddr}
 use Rattle.decode.specs.Fields.{rt}
 use Rattle.execute.specs.declared.Executed.{Executed}
 use Rattle.effect.specs.declared.Effect.{Effect}
 use Rattle.effect.specs.Step.{executed, readied, decoded, begun, fetched, effectOf}
 use Rattle.card.specs.declared.Machine.{Machine}
-use Rattle.demands.specs.StepStops.{r0, goes, Fetches, LeadsTo, Holds, Brings, readiness, Executes}
+use Rattle.demands.specs.StepStops.{goes, Fetches, LeadsTo, Holds, Brings, readiness, Executes}
 use Rattle.demands.specs.StepStops.LeadsTo.{mapped, unmapped}
 use Rattle.demands.specs.StepStops.Holds.{ram, rom}
 

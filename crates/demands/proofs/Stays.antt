@@ -7,8 +7,8 @@ use mathlib.Core.List.{List}
 use lib.Dec.{eqb}
 use lib.ListN.{getD, length, set, length-set}
 use lib.Seq.{getD-set-other}
-use borrow.Author.Tests.{eqb-true, eqb-false, eq-eqb, ne-eqb}
-use Rattle.promise.specs.Pick.{pick, both, either}
+use borrow.Author.Tests.{eqb-true, eqb-false, eq-eqb}
+use Rattle.promise.specs.Pick.{pick, both}
 use Rattle.memory.specs.Memory.{read}
 use Rattle.memory.specs.StoreLaws.{length-put}
 use Rattle.tlb.specs.Range.{tlbInRange}
@@ -21,16 +21,13 @@ use Rattle.effect.specs.declared.Cpu.{Cpu}
 use Rattle.effect.specs.declared.Turn.{Turn}
 use Rattle.effect.specs.declared.Turn.the-variants as turn
 use Rattle.effect.specs.declared.Effect.{Effect}
-use Rattle.effect.specs.Step.{effectOf}
 use Rattle.effect.specs.After.{onward, pending, arrived, cpuAfter}
 use Rattle.card.specs.declared.Machine.{Machine}
 use Rattle.card.specs.Machine.{cpuInRange, inRange}
 use Rattle.card.specs.Step.{putReg, apply, stepOf}
 use Rattle.card.specs.Run.{Whole, whole, plus, refusal, steps, runOf}
-use Rattle.demands.specs.Call.{Call, run}
-use Rattle.demands.specs.Refusals.{Accepted}
 use Rattle.demands.specs.StepStops.{r0}
-use Rattle.demands.specs.Runs.{after, next, resumed}
+use Rattle.demands.specs.Runs.{after}
 use Rattle.demands.specs.Range.{Good, StepStays, RunStays, Never19, RunInParts}
 use Rattle.demands.proofs.StepStops.{step-stops}
 use Rattle.demands.proofs.Runs.{goes-on, stops, parts}

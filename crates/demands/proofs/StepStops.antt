@@ -4,11 +4,10 @@ use native.Mathlib.Omega.{arith}
 use mathlib.Core.Path.{_≡_, refl, sym, _∙_, ap, subst}
 use mathlib.Core.Bool.{Bool, true, false}
 use mathlib.Core.List.{List}
-use mathlib.Core.Logic.{_↔_, _⊎_, inl, inr}
+use mathlib.Core.Logic.{inl, inr}
 use lib.Dec.{eqb}
-use lib.ListN.{getD}
 use borrow.Author.Tests.{eqb-true, eqb-false, ne-eqb}
-use Rattle.promise.specs.Pick.{pick, both}
+use Rattle.promise.specs.Pick.{pick}
 use Rattle.memory.specs.declared.PAddr.{PAddr}
 use Rattle.memory.specs.declared.Eight.{Eight}
 use Rattle.memory.specs.declared.Eight.the-variants.{Ram, Rom, Missing}
@@ -17,14 +16,13 @@ use Rattle.memory.specs.Loads.{lwu}
 use Rattle.memory.specs.Stores.{putBytes}
 use Rattle.memory.specs.declared.Store.{Store}
 use Rattle.tlb.specs.declared.VAddr.{VAddr}
-use Rattle.tlb.specs.declared.Half.{Half}
 use Rattle.tlb.specs.declared.Where.{Where}
 use Rattle.tlb.specs.declared.Where.the-variants.{Mapped, Unmapped, Invalid, Refill, Double, AddressError}
 use Rattle.tlb.specs.declared.SlotRead.{SlotRead}
 use Rattle.tlb.specs.declared.SlotRead.the-variants as slotRead
 use Rattle.tlb.specs.declared.Probe.{Probe}
 use Rattle.tlb.specs.declared.Probe.the-variants as probed
-use Rattle.tlb.specs.Slot.{putSlot, readSlot}
+use Rattle.tlb.specs.Slot.{putSlot}
 use Rattle.tlb.specs.Probe.{probe}
 use Rattle.tlb.specs.Translate.{vaddr}
 use Rattle.cp0.specs.declared.Exception.{Exception}
@@ -40,7 +38,6 @@ use Rattle.decode.specs.declared.TlbOp.{TlbOp}
 use Rattle.decode.specs.declared.TlbOp.the-variants.{TLBR, TLBWI, TLBWR, TLBP}
 use Rattle.decode.specs.declared.Ready.{Ready}
 use Rattle.decode.specs.declared.Ready.the-variants.{Go, Unusable, Reserved, InSlot}
-use Rattle.decode.specs.Fields.{rt}
 use Rattle.decode.specs.Decode.{decode}
 use Rattle.execute.specs.declared.Act.{Act}
 use Rattle.execute.specs.declared.Act.the-variants as act
@@ -50,7 +47,7 @@ use Rattle.execute.specs.declared.Executed.{Executed}
 use Rattle.execute.specs.declared.Executed.the-variants as done
 use Rattle.execute.specs.LoadStore.{loadAlign, storeAlign}
 use Rattle.effect.specs.declared.Effect.{Effect}
-use Rattle.effect.specs.Effect.{effects, turned, wrote, raised, stopped}
+use Rattle.effect.specs.Effect.{turned, wrote, raised, stopped}
 use Rattle.effect.specs.Access.{got, loaded, sending, sent, saved}
 use Rattle.effect.specs.Step as step
 use Rattle.effect.specs.Step.{fromSlot, fromProbe, tlbDone, movedTo, asked, commanded, executed, readied, begun, fetched, effectOf}

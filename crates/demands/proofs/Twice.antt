@@ -12,8 +12,7 @@ use Rattle.tlb.specs.declared.Mode.the-variants.{User, Kernel, Error}
 use Rattle.tlb.specs.declared.Found.{Found}
 use Rattle.tlb.specs.declared.Found.the-variants.{Absent, One, Many}
 use Rattle.tlb.specs.declared.Where.{Where}
-use Rattle.tlb.specs.declared.Where.the-variants.{Mapped, Unmapped, Invalid, Refill, Double, AddressError}
-use Rattle.tlb.specs.declared.Probe.{Probe}
+use Rattle.tlb.specs.declared.Where.the-variants.{Double}
 use Rattle.tlb.specs.declared.Probe.the-variants as probed
 use Rattle.tlb.specs.Slot.{asidOf, slotAt, validOf}
 use Rattle.tlb.specs.Match.{lookup}

@@ -1,7 +1,6 @@
 -- Each useless emulator is wrong of document 01's own program, or of a call that is refused.
-use Prim.Native.Nat.{ℕ}
 use native.Mathlib.Omega.{arith}
-use mathlib.Core.Path.{_≡_, refl, sym, _∙_, ap}
+use mathlib.Core.Path.{_≡_, refl, _∙_, ap}
 use mathlib.Core.List.{[]}
 use Rattle.card.specs.declared.Machine.{Machine}
 use Rattle.card.specs.Machine.{fresh}

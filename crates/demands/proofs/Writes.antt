@@ -1,5 +1,5 @@
 -- A step writes no register but those that a field of five bits names: an instruction's destination is below 32.
-use Prim.Native.Nat.{ℕ, _/_, _%_, _^_, _<_}
+use Prim.Native.Nat.{ℕ, _<_}
 use native.Mathlib.Omega.{arith}
 use mathlib.Core.Path.{_≡_, refl, subst}
 use mathlib.Core.Bool.{Bool, true, false}
@@ -11,9 +11,8 @@ use Rattle.decode.specs.declared.Instr.{Instr}
 use Rattle.decode.specs.declared.Instr.the-variants as instr
 use Rattle.decode.specs.declared.Decoded.{Decoded}
 use Rattle.decode.specs.declared.Decoded.the-variants as decoded
-use Rattle.decode.specs.declared.Ready.{Ready}
 use Rattle.decode.specs.declared.Ready.the-variants.{Go}
-use Rattle.decode.specs.Fields.{rs, rt, rd, opcode, funct}
+use Rattle.decode.specs.Fields.{rs, rt, rd, funct}
 use Rattle.decode.specs.Maps.{Entry, Major, Maps, mips3}
 use Rattle.decode.specs.Maps.Major.{SPECIAL, REGIMM, own}
 use Rattle.decode.specs.Maps.Entry.{reserved, COP0, CP1, CP2, CACHE, load, store, arithmetic, arithmeticI, logic, logicI, shift, shiftV, multiply, hiLo, branch, jump, jumpR, trap, trapI, special}

@@ -9,9 +9,8 @@ use Rattle.promise.specs.Pick.{pick}
 use Rattle.card.specs.declared.Machine.{Machine}
 use Rattle.card.specs.Machine.{inRange}
 use Rattle.card.specs.Step.{stepOf}
-use Rattle.card.specs.Run.{Whole, plus, runOf}
+use Rattle.card.specs.Run.{plus, runOf}
 use Rattle.demands.specs.Call.{Call, run}
-use Rattle.demands.specs.Refusals.{Accepted}
 
 -- a machine in its range; 32 registers and 48 slots of four numbers are what every machine of the card has
 pub record Good (m : Machine) : Type 0 where

@@ -1,5 +1,5 @@
 -- Refusals 1 to 4: each is given exactly in its case, and a refusal takes no step and changes nothing (N14, N16).
-use Prim.Native.Nat.{ℕ, _%_, _≤_, _<_}
+use Prim.Native.Nat.{_%_, _≤_, _<_}
 use mathlib.Core.Path.{_≡_}
 use mathlib.Core.Bool.{true, false}
 use mathlib.Core.Logic.{_↔_}

@@ -1,7 +1,7 @@
 -- The stops of one step, each exactly in its case over the stages of the step's definition (N10 to N14, N17 to N19).
 use Prim.Native.Nat.{ℕ}
 use mathlib.Core.Path.{_≡_}
-use mathlib.Core.Bool.{Bool, true, false}
+use mathlib.Core.Bool.{true, false}
 use mathlib.Core.List.{List}
 use mathlib.Core.Logic.{_↔_, _⊎_}
 use lib.ListN.{getD}

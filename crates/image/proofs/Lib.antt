@@ -3,3 +3,4 @@ pub mod Turns
 pub mod Reading
 pub mod Once
 pub mod InRange
+pub mod Exact

@@ -34,7 +34,7 @@ use Rattle.image.specs.Refusals.{isFrame, isBudget, refusalOf, firstOf, 
 use Rattle.image.specs.Acts.{regsSet, cpuSet, moved, Loaded, loaded, act, acts}
 use Rattle.image.specs.Image.{loadedBy, imageOf}
 
-false-not-true : false ≡ true → ⊥
+pub false-not-true : false ≡ true → ⊥
 false-not-true e = let z : _≡_ {A = ℕ} 0 1 = cc in omega arith
 
 -- the range fact by fact, with the length of the TLB

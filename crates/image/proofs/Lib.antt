@@ -3,3 +3,5 @@ pub mod Turns
 pub mod Reading
 pub mod Once
 pub mod InRange
+pub mod Cases
+pub mod Exact

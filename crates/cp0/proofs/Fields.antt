@@ -1,9 +1,8 @@
 -- Status and Cause as the sums of their fields: each field is read off the sum, so that a register keeps it whole.
 use Prim.Native.Nat.{ℕ, _+_, _*_, _/_, _%_, _^_, _<_}
-use mathlib.Core.Path.{_≡_, refl, sym, subst, _∙_, ap}
+use mathlib.Core.Path.{_≡_, sym, subst}
 use native.Mathlib.Omega.{arith}
 use Rattle.cp0.specs.Registers.{replaced, cleared, keptStatus, keptCause}
-use Rattle.cp0.specs.Exceptions.{causeAfter}
 
 -- Status of CU0, BEV, IM and the low five bits
 abbrev pub statusOf : ℕ → ℕ → ℕ → ℕ → ℕ

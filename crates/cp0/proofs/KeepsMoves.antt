@@ -1,5 +1,5 @@
 -- A move of a value that is built leaves the registers in range.
-use Prim.Native.Nat.{ℕ, _+_, _*_, _/_, _%_, _^_, _<_, _≤_}
+use Prim.Native.Nat.{ℕ, _+_, _*_, _/_, _%_, _^_, _≤_}
 use mathlib.Core.Path.{_≡_, refl, sym, subst, ap, _∙_}
 use mathlib.Core.Bool.{Bool, true, false}
 use native.Mathlib.Omega.{arith}
@@ -9,12 +9,11 @@ use Rattle.promise.specs.Pick.{pick}
 use Rattle.promise.specs.Bits.{bits}
 use Rattle.tlb.specs.PageMask.{legalMask}
 use Rattle.cp0.specs.declared.Cp0.{Cp0}
-use Rattle.cp0.specs.declared.Move.{Move}
 use Rattle.cp0.specs.declared.Move.the-variants.{Built, NotBuilt}
 use Rattle.cp0.specs.Registers.{Index, Random, EntryLo0, EntryLo1, Context, PageMask, Wired, Count, EntryHi, Compare, Status, Cause, EPC, Config, TagLo, TagHi, ErrorEPC, set, low, only, replaced, cleared, keptIndex, keptEntryLo, keptWired, keptEntryHi, keptStatus}
-use Rattle.cp0.specs.Moves.{moveWord, moveIn, builtStatus, checkMove}
+use Rattle.cp0.specs.Moves.{moveControl, moveWord, moveIn, builtStatus, checkMove}
 use Rattle.cp0.specs.Range.{configInRange, cp0InRange}
-use Rattle.cp0.proofs.Kept.{index-kept, entrylo-kept, wired-kept, entryhi-kept, context-moved, cause-untimed, cause-moved}
+use Rattle.cp0.proofs.KeptBits.{index-kept, entrylo-kept, wired-kept, entryhi-kept, context-moved, cause-untimed, cause-moved}
 use Rattle.cp0.proofs.StatusRange.{status-moved}
 use Rattle.cp0.proofs.KeepsRandom.{top-in}
 use Rattle.cp0.proofs.InRange.{InRange, range-read, range-made, may, set-in, split, join}
@@ -37,6 +36,19 @@ at P n k here there = go (eqb n k) refl
     go false e = there e
 
 module _ (c : Cp0) (r : InRange c) where
+  control-in : (n w : ℕ) → (n ≡ Status → builtStatus w ≡ true) → InRange (moveControl c n w)
+  unfolding moveControl set may
+  control-in n w built =
+      let P : ℕ → Type 0 = λ m. InRange (moveControl c m w) in
+      at P n Count (λ _. set-in c Count w refl (r .random-in) r) (λ e9.
+      at P n Compare (λ _. set-in (set c Compare w) Cause (cleared (c .cause) 15 1) (eq-eqb _ _ (cause-untimed (c .cause) (r .cause-in))) (r .random-in) (set-in c Compare w refl (r .random-in) r)) (λ e11.
+      at P n Status (λ p. set-in c Status (keptStatus w) (status-moved w (built p)) (r .random-in) r) (λ e12.
+      at P n Cause (λ _. set-in c Cause (replaced (c .cause) 8 2 (bits w 8 2)) (eq-eqb _ _ (cause-moved (c .cause) (r .cause-in) (bits w 8 2) (omega arith))) (r .random-in) r) (λ e13.
+      at P n Config (λ _. set-in c Config (c .config / 2 ^ 3 * 2 ^ 3 + w % 2 ^ 3) (config-moved (c .config) w (r .config-in)) (r .random-in) r) (λ e16.
+      at P n TagLo (λ _. set-in c TagLo w refl (r .random-in) r) (λ e28.
+      at P n TagHi (λ _. set-in c TagHi w refl (r .random-in) r) (λ e29.
+      simp (e9, e11, e12, e13, e16, e28, e29) r)))))))
+
   word-in : (n w : ℕ) → (n ≡ Status → builtStatus w ≡ true) → (n ≡ PageMask → legalMask w ≡ true) → InRange (moveWord c n w)
   unfolding moveWord set may
   word-in n w built legal =
@@ -46,15 +58,8 @@ module _ (c : Cp0) (r : InRange c) where
       at P n EntryLo1 (λ _. set-in c EntryLo1 (keptEntryLo w) (eq-eqb _ _ (entrylo-kept w)) (r .random-in) r) (λ e3.
       at P n PageMask (λ p. set-in c PageMask w (legal p) (r .random-in) r) (λ e5.
       at P n Wired (λ _. set-in (set c Random 47) Wired (keptWired w) (eq-eqb _ _ (wired-kept w)) (top-in (keptWired w)) (set-in c Random 47 refl (top-in (c .wired)) r)) (λ e6.
-      at P n Count (λ _. set-in c Count w refl (r .random-in) r) (λ e9.
       at P n EntryHi (λ _. set-in c EntryHi (keptEntryHi w) (eq-eqb _ _ (entryhi-kept w)) (r .random-in) r) (λ e10.
-      at P n Compare (λ _. set-in (set c Compare w) Cause (cleared (c .cause) 15 1) (eq-eqb _ _ (cause-untimed (c .cause) (r .cause-in))) (r .random-in) (set-in c Compare w refl (r .random-in) r)) (λ e11.
-      at P n Status (λ p. set-in c Status (keptStatus w) (status-moved w (built p)) (r .random-in) r) (λ e12.
-      at P n Cause (λ _. set-in c Cause (replaced (c .cause) 8 2 (bits w 8 2)) (eq-eqb _ _ (cause-moved (c .cause) (r .cause-in) (bits w 8 2) (omega arith))) (r .random-in) r) (λ e13.
-      at P n Config (λ _. set-in c Config (c .config / 2 ^ 3 * 2 ^ 3 + w % 2 ^ 3) (config-moved (c .config) w (r .config-in)) (r .random-in) r) (λ e16.
-      at P n TagLo (λ _. set-in c TagLo w refl (r .random-in) r) (λ e28.
-      at P n TagHi (λ _. set-in c TagHi w refl (r .random-in) r) (λ e29.
-      simp (e0, e2, e3, e5, e6, e9, e10, e11, e12, e13, e16, e28, e29) r)))))))))))))
+      simp (e0, e2, e3, e5, e6, e10) (control-in n w built)))))))
 
   move-in : (n v : ℕ) → (n ≡ Status → builtStatus (low v) ≡ true) → (n ≡ PageMask → legalMask (low v) ≡ true) → InRange (moveIn c n v)
   unfolding moveIn set may

@@ -1,17 +1,17 @@
 -- Random and Wired stay in range together, and so do the registers at the end of a counted step.
-use Prim.Native.Nat.{ℕ, _+_, _-_, _%_, _^_, _<_, _≤_}
-use mathlib.Core.Path.{_≡_, refl, sym, subst, ap, _∙_}
+use Prim.Native.Nat.{ℕ, _-_, _≤_}
+use mathlib.Core.Path.{_≡_, refl}
 use mathlib.Core.Bool.{Bool, true, false}
 use native.Mathlib.Omega.{arith}
 use lib.Dec.{eqb, leb}
 use borrow.Author.Tests.{eqb-false, eq-eqb, le-leb, leb-true}
-use Rattle.promise.specs.Pick.{pick, both, either}
+use Rattle.promise.specs.Pick.{pick, either}
 use Rattle.cp0.specs.declared.Cp0.{Cp0}
 use Rattle.cp0.specs.Registers.{Random, Cause, Count, set, replaced, keptCause}
 use Rattle.cp0.specs.Tick.{counted, timed, drawn, ended}
 use Rattle.cp0.specs.Range.{randomInRange, cp0InRange}
-use Rattle.cp0.proofs.Kept.{cause-timed}
-use Rattle.cp0.proofs.InRange.{InRange, range-read, range-made, may, set-in, split, join}
+use Rattle.cp0.proofs.KeptBits.{cause-timed}
+use Rattle.cp0.proofs.InRange.{range-read, range-made, may, set-in, split, join}
 
 -- 47 is in range, whatever Wired holds
 pub top-in : (wired : ℕ) → randomInRange 47 wired ≡ true

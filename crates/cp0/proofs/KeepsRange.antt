@@ -1,12 +1,10 @@
 -- Whatever a step does to the registers, it leaves them in range: each law for one thing that it does.
-use Prim.Native.Nat.{ℕ, _+_, _-_, _*_, _/_, _%_, _^_, _<_, _≤_}
-use mathlib.Core.Path.{_≡_, refl, sym, subst, ap, _∙_}
-use mathlib.Core.Bool.{Bool, true, false}
+use Prim.Native.Nat.{ℕ, _+_, _-_, _*_, _/_, _%_, _^_, _<_}
+use mathlib.Core.Path.{_≡_, refl, sym, subst}
+use mathlib.Core.Bool.{Bool, true}
 use native.Mathlib.Omega.{arith}
-use lib.Dec.{eqb, leb}
 use lib.Count.{ones, onesIn, trailingZeros}
-use borrow.Author.Tests.{eqb-true, eqb-false, eq-eqb, le-leb, leb-true, leb-false}
-use Rattle.promise.specs.Pick.{pick, both, either}
+use borrow.Author.Tests.{eq-eqb}
 use Rattle.promise.specs.Bits.{bits}
 use Rattle.memory.specs.declared.PAddr.{PAddr}
 use Rattle.tlb.specs.PageMask.{legalMask, trailingOnes}
@@ -14,15 +12,14 @@ use Rattle.cp0.specs.declared.Cp0.{Cp0}
 use Rattle.cp0.specs.declared.Bad.{Bad}
 use Rattle.cp0.specs.declared.Bad.the-variants.{Nothing, Address, Page}
 use Rattle.cp0.specs.declared.Exception.{Exception}
-use Rattle.cp0.specs.Registers.{Random, Index, BadVAddr, Context, EntryHi, Status, Cause, EPC, LLAddr, Count, set, low, only, replaced, keptIndex, fresh, linked, probed}
+use Rattle.cp0.specs.Registers.{Index, BadVAddr, Context, EntryHi, Status, Cause, EPC, LLAddr, set, low, only, replaced, keptIndex, fresh, linked, probed}
 use Rattle.cp0.specs.Exceptions.{told, bdAfter, causeAfter, epcAfter, addressed, entered, statusReturned, returned}
-use Rattle.cp0.specs.Tick.{counted, timed, drawn, ended}
 use Rattle.cp0.specs.Range.{randomInRange, statusInRange, configInRange, entriesInRange, controlInRange, cp0InRange}
 use Rattle.cp0.specs.Moves.{builtStatus}
 use Rattle.cp0.proofs.Fits.{told-fits, bd-fits}
-use Rattle.cp0.proofs.Kept.{entryhi-page, context-page, cause-timed, cause-entered}
+use Rattle.cp0.proofs.KeptBits.{entryhi-page, context-page, cause-entered}
 use Rattle.cp0.proofs.StatusRange.{status-entered, status-returned}
-use Rattle.cp0.proofs.InRange.{InRange, range-read, range-made, may, set-in, split, join}
+use Rattle.cp0.proofs.InRange.{InRange, range-read, range-made, may, set-in}
 
 -- the fresh machine's
 pub fresh-in-range : cp0InRange fresh ≡ true

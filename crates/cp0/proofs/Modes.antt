@@ -1,14 +1,12 @@
 -- What isolation rests on: an exception leads out of User mode and keeps the ASID; the end of a step and LL change neither.
-use Prim.Native.Nat.{ℕ, _+_, _*_, _/_, _%_, _^_}
-use mathlib.Core.Path.{_≡_, refl, sym, ap, _∙_}
+use Prim.Native.Nat.{ℕ, _/_, _%_, _^_}
+use mathlib.Core.Path.{_≡_, refl, ap, _∙_}
 use mathlib.Core.Bool.{Bool, true, false}
 use native.Mathlib.Omega.{arith}
 use lib.Dec.{eqb}
 use borrow.Author.Tests.{eq-eqb}
 use Rattle.promise.specs.Pick.{pick, both, either, not}
-use Rattle.promise.specs.Bits.{set?}
 use Rattle.memory.specs.declared.PAddr.{PAddr}
-use Rattle.tlb.specs.declared.Mode.{Mode}
 use Rattle.tlb.specs.declared.Mode.the-variants.{User, Kernel, Error}
 use Rattle.cp0.specs.declared.Cp0.{Cp0}
 use Rattle.cp0.specs.declared.Bad.{Bad}

@@ -11,6 +11,8 @@ use Rattle.cp0.proofs.status.cause_read.Kinds as cause-read-kinds
 use Rattle.cp0.proofs.status.cause_read.Reads as cause-read-reads
 use Rattle.cp0.proofs.status.interrupted.Kinds as interrupted-kinds
 use Rattle.cp0.proofs.status.interrupted.Reads as interrupted-reads
+use Rattle.cp0.proofs.registers.kept.Kinds as kept-kinds
+use Rattle.cp0.proofs.registers.kept.Reads as kept-reads
 use Rattle.cp0.proofs.registers.low.Kinds as low-kinds
 use Rattle.cp0.proofs.registers.low.Reads as low-reads
 use Rattle.cp0.proofs.registers.wide.Kinds as wide-kinds
@@ -72,6 +74,9 @@ cause-read-once κs a p z₁ z₂ ws₁ ws₂ h₁ h₂ = (same h₁ h₂, refl)
 
 pub interrupted-once : Unique interrupted-kinds.ps interrupted-kinds.r interrupted-reads.Pre interrupted-reads.Post
 interrupted-once κs a p z₁ z₂ ws₁ ws₂ h₁ h₂ = (same h₁ h₂, refl)
+
+pub kept-once : Unique kept-kinds.ps kept-kinds.r kept-reads.Pre kept-reads.Post
+kept-once κs a p z₁ z₂ ws₁ ws₂ h₁ h₂ = (same h₁ h₂, refl)
 
 pub low-once : Unique low-kinds.ps low-kinds.r low-reads.Pre low-reads.Post
 low-once κs a p z₁ z₂ ws₁ ws₂ h₁ h₂ = (same h₁ h₂, refl)

@@ -1,6 +1,6 @@
 -- Status stays in range where its low five bits change and KSU does not, and a moved value that is built is in range.
 use Prim.Native.Nat.{ℕ, _+_, _*_, _/_, _%_, _^_, _<_}
-use mathlib.Core.Path.{_≡_, refl, sym, subst, ap, _∙_}
+use mathlib.Core.Path.{_≡_, sym, ap, _∙_}
 use mathlib.Core.Bool.{Bool, true, false}
 use native.Mathlib.Omega.{arith}
 use lib.Dec.{eqb}
@@ -13,7 +13,7 @@ use Rattle.cp0.specs.Moves.{builtStatus}
 use Rattle.cp0.specs.Exceptions.{statusReturned}
 use Rattle.cp0.specs.Range.{statusInRange}
 use Rattle.cp0.proofs.Fields.{statusOf}
-use Rattle.cp0.proofs.Kept.{status-kept, status-five}
+use Rattle.cp0.proofs.KeptBits.{status-kept, status-five}
 use Rattle.cp0.proofs.InRange.{split, join}
 
 -- whether a value is built is told by four of its fields

@@ -1,10 +1,8 @@
 -- The entry of an exception, its vector, and the return from it.
-use Prim.Native.Nat.{ℕ, _+_, _*_, _/_, _%_, _^_}
-use mathlib.Core.Bool.{Bool, true, false}
-use lib.Dec.{eqb}
+use Prim.Native.Nat.{ℕ, _+_, _*_, _%_, _^_}
+use mathlib.Core.Bool.{Bool, false}
 use Rattle.promise.specs.Pick.{pick, both, not}
 use Rattle.promise.specs.Bits.{bit, bits}
-use Rattle.tlb.specs.declared.VAddr.{VAddr}
 use Rattle.cp0.specs.declared.Cp0.{Cp0}
 use Rattle.cp0.specs.declared.Bad.{Bad}
 use Rattle.cp0.specs.declared.Bad.the-variants.{Nothing, Address, Page}

@@ -1,9 +1,9 @@
 -- Moves from and to the registers, and the moves that are not built.
 use Prim.Native.Nat.{ℕ, _+_, _*_, _/_, _%_, _^_}
-use mathlib.Core.Bool.{Bool, true, false}
+use mathlib.Core.Bool.{Bool}
 use lib.Dec.{eqb}
 use Rattle.promise.specs.Pick.{pick, both, either, not}
-use Rattle.promise.specs.Bits.{set?, bits}
+use Rattle.promise.specs.Bits.{bits}
 use Rattle.word.specs.Word.{extend}
 use Rattle.tlb.specs.PageMask.{legalMask}
 use Rattle.cp0.specs.declared.Cp0.{Cp0}
@@ -42,7 +42,19 @@ moveOut c lines n =
     (pick (eqb n ErrorEPC) (c .errorepc)
     (extend (wordOf c lines n)))))
 
--- a move of the word w to the 32-bit register n, and what is kept of it (T12, T14, T16, T17, T18, T20); Wired sets Random to 47 (S10), Compare clears IP7 (S11)
+-- a move of the word w to register n: Compare clears IP7 (S11), Cause takes IP1..0 and Config its three low bits (T17, T18, T20); others drop it (T12, T16)
+unfoldable pub moveControl : Cp0 → ℕ → ℕ → Cp0
+moveControl c n w =
+    pick (eqb n Count) (set c Count w)
+    (pick (eqb n Compare) (set (set c Compare w) Cause (cleared (c .cause) 15 1))
+    (pick (eqb n Status) (set c Status (keptStatus w))
+    (pick (eqb n Cause) (set c Cause (replaced (c .cause) 8 2 (bits w 8 2)))
+    (pick (eqb n Config) (set c Config (c .config / 2 ^ 3 * 2 ^ 3 + w % 2 ^ 3))
+    (pick (eqb n TagLo) (set c TagLo w)
+    (pick (eqb n TagHi) (set c TagHi w)
+    c))))))
+
+-- the same, first of the registers that go with the TLB (T14); Wired sets Random to 47 (S10)
 unfoldable pub moveWord : Cp0 → ℕ → ℕ → Cp0
 moveWord c n w =
     pick (eqb n Index) (set c Index (keptIndex w))
@@ -50,15 +62,8 @@ moveWord c n w =
     (pick (eqb n EntryLo1) (set c EntryLo1 (keptEntryLo w))
     (pick (eqb n PageMask) (set c PageMask w)
     (pick (eqb n Wired) (set (set c Random 47) Wired (keptWired w))
-    (pick (eqb n Count) (set c Count w)
     (pick (eqb n EntryHi) (set c EntryHi (keptEntryHi w))
-    (pick (eqb n Compare) (set (set c Compare w) Cause (cleared (c .cause) 15 1))
-    (pick (eqb n Status) (set c Status (keptStatus w))
-    (pick (eqb n Cause) (set c Cause (replaced (c .cause) 8 2 (bits w 8 2)))
-    (pick (eqb n Config) (set c Config (c .config / 2 ^ 3 * 2 ^ 3 + w % 2 ^ 3))
-    (pick (eqb n TagLo) (set c TagLo w)
-    (pick (eqb n TagHi) (set c TagHi w)
-    c))))))))))))
+    (moveControl c n w))))))
 
 -- a doubleword move to register n: Context keeps bits 22..4 as they were, and 32-bit registers take the low word (T13, T14)
 unfoldable pub moveIn : Cp0 → ℕ → ℕ → Cp0

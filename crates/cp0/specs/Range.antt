@@ -1,6 +1,6 @@
 -- The range of the registers: what a machine may hold that a call accepts.
-use Prim.Native.Nat.{ℕ, _+_, _*_, _/_, _%_, _^_}
-use mathlib.Core.Bool.{Bool, true, false}
+use Prim.Native.Nat.{ℕ}
+use mathlib.Core.Bool.{Bool, true}
 use lib.Dec.{leb, eqb}
 use Rattle.promise.specs.Pick.{pick, both}
 use Rattle.tlb.specs.PageMask.{legalMask}

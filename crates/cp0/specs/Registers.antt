@@ -1,7 +1,7 @@
 -- The kept registers: their numbers (document 000), the bits that each keeps, and how one of them is read and set.
 use Prim.Native.Nat.{ℕ, _+_, _*_, _/_, _%_, _^_}
-use mathlib.Core.Bool.{Bool, true, false}
-use lib.Dec.{ltb, eqb}
+use mathlib.Core.Bool.{Bool}
+use lib.Dec.{leb, eqb}
 use Rattle.promise.specs.Pick.{pick, both, either}
 use Rattle.memory.specs.declared.PAddr.{PAddr}
 use Rattle.tlb.specs.declared.Slot.{Slot}
@@ -67,6 +67,10 @@ TagHi = 29
 
 abbrev pub ErrorEPC : ℕ
 ErrorEPC = 30
+
+-- the registers that are kept: 0 to 6, 8 to 17, 28 to 30 (T11)
+unfoldable pub kept? : ℕ → Bool
+kept? n = either (leb n 6) (both (leb 8 n) (either (leb n 17) (both (leb 28 n) (leb n 30))))
 
 -- the registers with register n holding v, and no other changed; a number that is not kept changes none (T12)
 unfoldable pub set : Cp0 → ℕ → ℕ → Cp0

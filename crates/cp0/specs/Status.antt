@@ -1,6 +1,6 @@
 -- The fields of Status and Cause, the mode, and when an interrupt is taken.
-use Prim.Native.Nat.{ℕ, _+_, _*_, _/_, _%_, _^_}
-use mathlib.Core.Bool.{Bool, true, false}
+use Prim.Native.Nat.{ℕ, _%_, _^_}
+use mathlib.Core.Bool.{Bool, true}
 use lib.Bits.{bitAnd}
 use lib.Dec.{eqb}
 use Rattle.promise.specs.Pick.{pick, both, either, not}

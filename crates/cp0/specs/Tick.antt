@@ -1,6 +1,6 @@
 -- The end of a counted step: Count, the timer and Random.
-use Prim.Native.Nat.{ℕ, _+_, _-_, _*_, _/_, _%_, _^_}
-use mathlib.Core.Bool.{Bool, true, false}
+use Prim.Native.Nat.{ℕ, _+_, _-_, _%_, _^_}
+use mathlib.Core.Bool.{Bool}
 use lib.Dec.{eqb}
 use Rattle.promise.specs.Pick.{pick, either}
 use Rattle.cp0.specs.declared.Cp0.{Cp0}

@@ -15,6 +15,7 @@ pub use moves::move_in;
 pub use moves::move_out;
 pub use range::cp0_in_range;
 pub use registers::fresh_cp0;
+pub use registers::kept;
 pub use registers::linked;
 pub use registers::probed;
 pub use registers::slot_read;

@@ -50,39 +50,14 @@ pub fn move_out(cp0: Cp0, lines: u8, number: usize) -> u64
     }
 }
 
-// A move of a word to a 32-bit register.
-fn move_word(cp0: Cp0, number: usize, w: u32) -> Cp0
-    ensures { λ r. ⌜ r ≡ M.moveWord cp0 number w ⌝ }
+// A move of a word to a register that does not go with the TLB.
+fn move_control(cp0: Cp0, number: usize, w: u32) -> Cp0
+    ensures { λ r. ⌜ r ≡ M.moveControl cp0 number w ⌝ }
 {
     let mut n = cp0;
     match number {
-        0 => {
-            n.index = kept_index(w);
-            n
-        }
-        2 => {
-            n.entrylo0 = kept_entrylo(w);
-            n
-        }
-        3 => {
-            n.entrylo1 = kept_entrylo(w);
-            n
-        }
-        5 => {
-            n.pagemask = w;
-            n
-        }
-        6 => {
-            n.wired = kept_wired(w);
-            n.random = 47;
-            n
-        }
         9 => {
             n.count = w;
-            n
-        }
-        10 => {
-            n.entryhi = kept_entryhi(wide(w));
             n
         }
         11 => {
@@ -111,6 +86,41 @@ fn move_word(cp0: Cp0, number: usize, w: u32) -> Cp0
             n
         }
         _ => n,
+    }
+}
+
+// A move of a word to a 32-bit register.
+fn move_word(cp0: Cp0, number: usize, w: u32) -> Cp0
+    ensures { λ r. ⌜ r ≡ M.moveWord cp0 number w ⌝ }
+{
+    let mut n = cp0;
+    match number {
+        0 => {
+            n.index = kept_index(w);
+            n
+        }
+        2 => {
+            n.entrylo0 = kept_entrylo(w);
+            n
+        }
+        3 => {
+            n.entrylo1 = kept_entrylo(w);
+            n
+        }
+        5 => {
+            n.pagemask = w;
+            n
+        }
+        6 => {
+            n.wired = kept_wired(w);
+            n.random = 47;
+            n
+        }
+        10 => {
+            n.entryhi = kept_entryhi(wide(w));
+            n
+        }
+        _ => move_control(cp0, number, w),
     }
 }
 

@@ -5,6 +5,25 @@ use crate::Cp0;
 use memory::PAddr;
 use tlb::Slot;
 
+// Whether a register is kept, by its number.
+pub fn kept(number: usize) -> bool
+    ensures { λ r. ⌜ r ≡ R.kept? number ⌝ }
+{
+    if number <= 6 {
+        return true;
+    }
+    if number < 8 {
+        return false;
+    }
+    if number <= 17 {
+        return true;
+    }
+    if number < 28 {
+        return false;
+    }
+    number <= 30
+}
+
 // The low word.
 pub fn low(x: u64) -> u32
     ensures { λ r. ⌜ r ≡ R.low x ⌝ }

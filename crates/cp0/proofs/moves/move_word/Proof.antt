@@ -26,32 +26,8 @@ wide-requires c κs = search needs
 kept-entryhi-requires : tie.Need-kept-entryhi-requires
 kept-entryhi-requires c κs = search needs
 
-mul-n : tie.Need-mul-n
-mul-n c = search needs
-
-add-n : tie.Need-add-n
-add-n c = search needs
-
-kept-status-requires : tie.Need-kept-status-requires
-kept-status-requires c κs = search needs
-
-mul-n-2 : tie.Need-mul-n-2
-mul-n-2 c = search needs
-
-mul-n-3 : tie.Need-mul-n-3
-mul-n-3 c = search needs
-
-add-n-2 : tie.Need-add-n-2
-add-n-2 c = search needs
-
-add-n-3 : tie.Need-add-n-3
-add-n-3 c = search needs
-
-mul-n-4 : tie.Need-mul-n-4
-mul-n-4 c = search needs
-
-add-n-4 : tie.Need-add-n-4
-add-n-4 c = search needs
+move-control-requires : tie.Need-move-control-requires
+move-control-requires c κs = search needs
 
 returns : tie.Need-returns
 unfolding moveWord set
@@ -75,39 +51,11 @@ returns-5 c = simp (c .kept-wired .ensures) (sym (ap (λ (n : ℕ). moveWord (c 
 
 returns-6 : tie.Need-returns-6
 unfolding moveWord set
-returns-6 c = sym (ap (λ (n : ℕ). moveWord (c .before .args .cp0) n (c .before .args .w)) (c .match .keys6))
+returns-6 c = simp (c .before .wide .ensures, c .kept-entryhi .ensures) (sym (ap (λ (n : ℕ). moveWord (c .before .before .before .args .cp0) n (c .before .before .before .args .w)) (c .before .before .match .keys6)))
 
 returns-7 : tie.Need-returns-7
 unfolding moveWord set
-returns-7 c = simp (c .before .wide .ensures, c .kept-entryhi .ensures) (sym (ap (λ (n : ℕ). moveWord (c .before .before .before .args .cp0) n (c .before .before .before .args .w)) (c .before .before .match .keys7)))
-
-returns-8 : tie.Need-returns-8
-unfolding moveWord set
-returns-8 c = sym (ap (λ (n : ℕ). moveWord (c .before .before .before .args .cp0) n (c .before .before .before .args .w)) (c .before .before .match .keys8))
-
-returns-9 : tie.Need-returns-9
-unfolding moveWord set
-returns-9 c = simp (c .kept-status .ensures) (sym (ap (λ (n : ℕ). moveWord (c .before .before .args .cp0) n (c .before .before .args .w)) (c .before .match .keys9)))
-
-returns-10 : tie.Need-returns-10
-unfolding moveWord set
-returns-10 c = sym (ap (λ (n : ℕ). moveWord (c .before .before .before .args .cp0) n (c .before .before .before .args .w)) (c .before .before .match .keys10))
-
-returns-11 : tie.Need-returns-11
-unfolding moveWord set
-returns-11 c = sym (ap (λ (n : ℕ). moveWord (c .before .before .args .cp0) n (c .before .before .args .w)) (c .before .match .keys11))
-
-returns-12 : tie.Need-returns-12
-unfolding moveWord set
-returns-12 c = sym (ap (λ (n : ℕ). moveWord (c .before .args .cp0) n (c .before .args .w)) (c .match .keys12))
-
-returns-13 : tie.Need-returns-13
-unfolding moveWord set
-returns-13 c = sym (ap (λ (n : ℕ). moveWord (c .before .args .cp0) n (c .before .args .w)) (c .match .keys13))
-
-returns-14 : tie.Need-returns-14
-unfolding moveWord set
-returns-14 c = simp (ne-eqb _ _ (c .match .rest .0 .0 .0 .0 .0 .0 .0 .0 .0 .0 .0 .0 .1), ne-eqb _ _ (c .match .rest .0 .0 .0 .0 .0 .0 .0 .0 .0 .0 .0 .1), ne-eqb _ _ (c .match .rest .0 .0 .0 .0 .0 .0 .0 .0 .0 .0 .1), ne-eqb _ _ (c .match .rest .0 .0 .0 .0 .0 .0 .0 .0 .0 .1), ne-eqb _ _ (c .match .rest .0 .0 .0 .0 .0 .0 .0 .0 .1), ne-eqb _ _ (c .match .rest .0 .0 .0 .0 .0 .0 .0 .1), ne-eqb _ _ (c .match .rest .0 .0 .0 .0 .0 .0 .1), ne-eqb _ _ (c .match .rest .0 .0 .0 .0 .0 .1), ne-eqb _ _ (c .match .rest .0 .0 .0 .0 .1), ne-eqb _ _ (c .match .rest .0 .0 .0 .1), ne-eqb _ _ (c .match .rest .0 .0 .1), ne-eqb _ _ (c .match .rest .0 .1), ne-eqb _ _ (c .match .rest .1))
+returns-7 c = simp (ne-eqb _ _ (c .before .match .rest .0 .0 .0 .0 .0 .1), ne-eqb _ _ (c .before .match .rest .0 .0 .0 .0 .1), ne-eqb _ _ (c .before .match .rest .0 .0 .0 .1), ne-eqb _ _ (c .before .match .rest .0 .0 .1), ne-eqb _ _ (c .before .match .rest .0 .1), ne-eqb _ _ (c .before .match .rest .1), c .move-control .ensures)
 
 pub move-word-spec : {M : Type 1} → statement M
 move-word-spec =
@@ -119,26 +67,11 @@ move-word-spec =
     kept-wired-requires
     wide-requires
     kept-entryhi-requires
-    mul-n
-    add-n
-    kept-status-requires
-    mul-n-2
-    mul-n-3
-    add-n-2
-    add-n-3
-    mul-n-4
-    add-n-4
+    move-control-requires
     returns
     returns-2
     returns-3
     returns-4
     returns-5
     returns-6
-    returns-7
-    returns-8
-    returns-9
-    returns-10
-    returns-11
-    returns-12
-    returns-13
-    returns-14)
+    returns-7)

@@ -1,5 +1,5 @@
 -- By the four tests, in the order of the definition; the last is the answer.
-use Rattle.cp0.proofs.Kept.{is-kept, not-kept}
+use Rattle.cp0.proofs.KeptBits.{is-kept, not-kept}
 use Rattle.cp0.specs.Range.{controlInRange}
 use mathlib.Core.Path.{sym, _∙_}
 use borrow.Author.Needs.{needs}

@@ -1,5 +1,5 @@
 -- By the six tests, in the order of the definition; the mask is the answer.
-use Rattle.cp0.proofs.Kept.{is-kept, not-kept}
+use Rattle.cp0.proofs.KeptBits.{is-kept, not-kept}
 use Rattle.cp0.specs.Range.{entriesInRange}
 use borrow.Author.Needs.{needs}
 use Rattle.cp0.proofs.range.entries_in_range.Statement.{statement}

@@ -1,5 +1,5 @@
 -- By the first test; whether it is built is the answer.
-use Rattle.cp0.proofs.Kept.{is-kept, not-kept}
+use Rattle.cp0.proofs.KeptBits.{is-kept, not-kept}
 use Rattle.cp0.specs.Range.{statusInRange}
 use borrow.Author.Needs.{needs}
 use Rattle.cp0.proofs.range.status_in_range.Statement.{statement}

@@ -1,0 +1,82 @@
+//! Random images from a seed.
+
+mod instructions;
+mod program;
+mod random;
+mod texts;
+mod values;
+
+use crate::many::Image;
+use random::Random;
+
+/// Gives the image of a number under a seed; only the last of a series may lack its final LF.
+pub fn image(seed: u64, number: u64, last: bool) -> Image {
+    let mut random = Random::new(seed, number);
+    let lines = if random.one_in(6) { random.below(32) as u32 } else { 0 };
+    let draft = program::draft(&mut random);
+    let text = match random.below(8) {
+        0 => texts::mutated(&mut random, draft.text()),
+        1 => texts::damaged(&mut random, draft.text(), last),
+        _ => draft.text().into_bytes(),
+    };
+    Image { name: format!("r-{seed}-{number}"), lines, rom: None, text }
+}
+
+/// Gives a series of images under a seed.
+pub fn series(seed: u64, count: u64) -> impl Iterator<Item = Image> {
+    (0..count).map(move |number| image(seed, number, number + 1 == count))
+}
+
+#[cfg(test)]
+mod tests {
+    use super::*;
+    use crate::answer::whole_answer;
+    use crate::many::{join, split};
+    use std::collections::BTreeMap;
+
+    #[test]
+    fn the_same_seed_gives_the_same_images() {
+        let first: Vec<Image> = series(7, 20).collect();
+        assert_eq!(first, series(7, 20).collect::<Vec<_>>());
+        assert_ne!(first, series(8, 20).collect::<Vec<_>>());
+    }
+
+    #[test]
+    fn images_are_short_and_split_again() {
+        let images: Vec<Image> = series(1, 400).collect();
+        assert!(images.iter().all(|image| image.text.len() < 65_536));
+        assert!(images.iter().all(|image| image.lines < 32));
+        assert_eq!(split(&join(&images)), Ok(images));
+    }
+
+    #[test]
+    fn budgets_are_small() {
+        for image in series(2, 400) {
+            for line in image.text.split(|byte| *byte == b'\n') {
+                if line.len() == 10 && line.starts_with(b"03") {
+                    assert!(line[2..8].iter().all(|byte| *byte == b'0'), "{}", image.name);
+                }
+            }
+        }
+    }
+
+    #[test]
+    fn every_outcome_and_exception_occurs() {
+        let mut numbers = BTreeMap::new();
+        let mut codes = BTreeMap::new();
+        for image in series(3, 4000) {
+            let answer = whole_answer(&image.text, image.lines, &[]);
+            *numbers.entry(answer[..4].to_string()).or_insert(0) += 1;
+            if let Some(at) = answer.find("\n040d") {
+                let cause = u64::from_str_radix(&answer[at + 5..at + 21], 16).unwrap();
+                *codes.entry(cause >> 2 & 31).or_insert(0) += 1;
+            }
+        }
+        for expected in ["0f00", "0f10", "0f11", "0f12", "0e06", "0e07", "0e08"] {
+            assert!(numbers.get(expected).is_some_and(|count| *count > 5), "{numbers:?}");
+        }
+        for code in 0..14 {
+            assert!(codes.get(&code).is_some_and(|count| *count > 5), "{codes:?}");
+        }
+    }
+}

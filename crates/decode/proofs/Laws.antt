@@ -28,6 +28,6 @@ inside f [] d k h = absurd (not-suc-le-zero h)
 inside f (x ∷ xs) d zero h = refl
 inside f (x ∷ xs) d (suc k) h = inside f xs d k (le-of-suc-le-suc h)
 
--- a table xs whose numbers, each read by f, are the map ys: its number at k, read by f, is the entry of ys at k
-pub at : {A : Type 0} (f : ℕ → A) (xs : List ℕ) (ys : List A) (d : A) → map f xs ≡ ys → (k : ℕ) → k < length xs → f (getD xs k 0) ≡ getD ys k d
-at {A} f xs ys d rule k h = inside f xs d k h ∙ ap (λ (zs : List A). getD zs k d) rule
+-- a table xs whose numbers, each read by f, are the map ys: its number at the code k, read by f, is the entry of ys at that code
+pub at : {A : Type 0} (f : ℕ → A) (xs : List ℕ) (ys : List A) (d : A) → map f xs ≡ ys → {k j : ℕ} → k ≡ j → j < length xs → f (getD xs k 0) ≡ getD ys j d
+at {A} f xs ys d rule {j = j} e h = ap (λ (i : ℕ). f (getD xs i 0)) e ∙ inside f xs d j h ∙ ap (λ (zs : List A). getD zs j d) rule

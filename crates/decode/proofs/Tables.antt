@@ -1,9 +1,11 @@
 -- The three tables of the code. Each has one rule, computed over the whole table: its numbers, read as entries, are the manual's map.
 use mathlib.Core.Path.{_≡_, refl}
 use mathlib.Core.List.{List, [], _∷_, map}
-use Prim.Native.Nat.{ℕ, _<_}
+use Prim.Native.Nat.{ℕ}
 use lib.ListN.{getD}
 use borrow.Author.Tests.{ne-eqb}
+use Rattle.decode.specs.Fields.{opcode, funct, rt}
+use Rattle.decode.specs.Laws.{fits}
 use Rattle.decode.specs.Maps.{majors, specials, regimms}
 use Rattle.decode.specs.Maps.Major.{own}
 use Rattle.decode.specs.Maps.Entry.{reserved}
@@ -31,8 +33,8 @@ major-rule : map majorOf majorTable ≡ majors
 unfolding majorOf entryOf majors
 major-rule = refl
 
-pub major-at : (k : ℕ) → k < 64 → majorOf (getD majorTable k 0) ≡ getD majors k (own reserved)
-major-at k h = at majorOf majorTable majors (own reserved) major-rule k h
+pub major-at : (w : ℕ) {k : ℕ} → k ≡ opcode w → majorOf (getD majorTable k 0) ≡ getD majors (opcode w) (own reserved)
+major-at w e = at majorOf majorTable majors (own reserved) major-rule e (fits w 26 6)
 
 abbrev pub specialTable : List ℕ
 specialTable =
@@ -50,8 +52,8 @@ special-rule : map entryOf specialTable ≡ specials
 unfolding entryOf specials
 special-rule = refl
 
-pub special-at : (k : ℕ) → k < 64 → entryOf (getD specialTable k 0) ≡ getD specials k reserved
-special-at k h = at entryOf specialTable specials reserved special-rule k h
+pub special-at : (w : ℕ) {k : ℕ} → k ≡ funct w → entryOf (getD specialTable k 0) ≡ getD specials (funct w) reserved
+special-at w e = at entryOf specialTable specials reserved special-rule e (fits w 0 6)
 
 abbrev pub regimmTable : List ℕ
 regimmTable =
@@ -65,5 +67,5 @@ regimm-rule : map entryOf regimmTable ≡ regimms
 unfolding entryOf regimms
 regimm-rule = refl
 
-pub regimm-at : (k : ℕ) → k < 32 → entryOf (getD regimmTable k 0) ≡ getD regimms k reserved
-regimm-at k h = at entryOf regimmTable regimms reserved regimm-rule k h
+pub regimm-at : (w : ℕ) {k : ℕ} → k ≡ rt w → entryOf (getD regimmTable k 0) ≡ getD regimms (rt w) reserved
+regimm-at w e = at entryOf regimmTable regimms reserved regimm-rule e (fits w 16 5)

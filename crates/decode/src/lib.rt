@@ -5,6 +5,8 @@ ghost use Rattle.decode.specs.Decode as D;
 pub mod fields; // the fields of a word
 mod maps; // the three maps as tables of numbers
 mod operations; // an operation by its number in its class
+mod classes; // the instruction of each class
+mod cop0; // COP0 words
 mod instructions; // an instruction by its entry's number
 mod doubleword; // the doubleword instructions
 pub mod usability; // whether the step may go on with it

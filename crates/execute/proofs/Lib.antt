@@ -1,2 +1,3 @@
--- What is proved besides the functions: that their contracts say all.
+-- What is proved besides the functions: worked examples, and that no contract admits two results.
+pub mod Examples
 pub mod Once

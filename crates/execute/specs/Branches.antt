@@ -35,7 +35,7 @@ atMostZero rs = either (set? rs 63) (eqb rs 0)
 unfoldable pub aboveZero : ℕ → Bool
 aboveZero rs = both (not (set? rs 63)) (not (eqb rs 0))
 
--- where a branch leads: from its slot on by the sign-extended offset times 4
+-- where a branch leads: from its slot on by the sign-extended offset times 4 (C4)
 unfoldable pub branchTarget : ℕ → ℕ → ℕ
 branchTarget pc offset = (slotAddress pc + extendImmediate offset * 4) % 2 ^ 64
 

@@ -8,7 +8,7 @@ use Rattle.execute.specs.declared.Act.{Act}
 use Rattle.execute.specs.declared.Act.the-variants.{Branch}
 use Rattle.execute.specs.Address.{slotAddress}
 
--- bits 63..28 of the slot's address, then the twenty-six bits of the word, then two zeros
+-- bits 63..28 of the slot's address, then the twenty-six bits of the word, then two zeros (C4)
 unfoldable pub jumpTarget : ℕ → ℕ → ℕ
 jumpTarget pc target = slotAddress pc / 2 ^ 28 * 2 ^ 28 + target % 2 ^ 26 * 4
 

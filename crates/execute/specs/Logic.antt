@@ -1,4 +1,4 @@
--- Logic, bit by bit, of the values of rs and rt, or of rs and the immediate with zeros above it; and the upper immediate.
+-- Logic, bit by bit, of the values of rs and rt, or of rs and the immediate with zeros above it; and the upper immediate (C4).
 use Prim.Native.Nat.{ℕ, _%_, _^_}
 use Rattle.word.specs.Word as word
 use Rattle.decode.specs.declared.LogicOp.{LogicOp}

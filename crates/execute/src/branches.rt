@@ -80,10 +80,8 @@ fn plain(taken: bool, link: usize, pc: u64, offset: u64) -> Act
             link,
         };
     }
-    Act::Branch {
-        to: std::num::wrapping_add_u64(pc, 8),
-        link,
-    }
+    let to = std::num::wrapping_add_u64(pc, 8);
+    Act::Branch { to, link }
 }
 
 // A likely branch not taken skips its slot.

@@ -9,18 +9,9 @@ use lib.Dec.{eqb}
 use lib.Pow.{pow-add}
 use borrow.Author.Tests.{eqb-true}
 use Rattle.promise.specs.Pick.{both}
-use Rattle.tlb.specs.PageMask.{run, trailingOnes, legalMask, pageBits, pageBytes}
+use Rattle.tlb.specs.PageMask.{run, trailingOnes, legalMask, pageBits, Size}
 use Rattle.tlb.proofs.Pages.{all-in-run}
 use Rattle.tlb.proofs.StaysInRange.{both-true}
-
--- a mask is the one of k, from 0 to 6
-pub record Size (mask : ℕ) : Type 0 where
-  pub k : ℕ
-  pub small : k ≤ 6
-  pub count : ones (run mask) ≡ 2 * k
-  pub mask-is : mask ≡ (4 ^ k - 1) * 2 ^ 13
-  pub bit-is : pageBits mask ≡ 12 + 2 * k
-  pub bytes-are : pageBytes mask ≡ 4096 * 4 ^ k
 
 four : (k : ℕ) → 2 ^ (2 * k) ≡ 4 ^ k
 four zero = refl

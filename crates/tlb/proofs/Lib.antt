@@ -10,3 +10,4 @@ pub mod Near
 pub mod Written
 pub mod StaysInRange
 pub mod LegalMasks
+pub mod UserMap

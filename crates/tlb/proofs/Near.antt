@@ -11,16 +11,12 @@ use Rattle.tlb.specs.declared.VAddr.{VAddr}
 use Rattle.tlb.specs.declared.Half.{Half}
 use Rattle.tlb.specs.declared.Found.{Found}
 use Rattle.tlb.specs.declared.Found.the-variants.{Absent, One, Many}
-use Rattle.tlb.specs.declared.Where.{Where}
-use Rattle.tlb.specs.declared.Where.the-variants.{Mapped, Unmapped, Invalid, Refill, Double, AddressError}
+use Rattle.tlb.specs.declared.Where.the-variants.{Mapped}
 use Rattle.tlb.specs.PageMask.{trailingOnes, run, pageBits}
 use Rattle.tlb.specs.Slot.{slotAt, frame, validOf}
 use Rattle.tlb.specs.Match.{hits, matchesAt, more, seek, lookup}
+use Rattle.tlb.specs.SamePage.{SamePage, toward}
 use Rattle.tlb.specs.Translate.{vaddr, paddr, physical, oddOf, loOf, through, throughSlot, throughFound, mapped}
-
--- two addresses lie in one 4 KiB page
-abbrev pub SamePage : VAddr → VAddr → Type 0
-SamePage v w = v .0 / 2 ^ 12 ≡ w .0 / 2 ^ 12
 
 module _ (v w : VAddr) (same : SamePage v w) where
   -- they have the same page number
@@ -61,15 +57,6 @@ split mask lo v =
     let t : ℕ = trailingOnes (run mask) in
     let m : v % 2 ^ (12 + t) ≡ (v / 2 ^ 12 % 2 ^ t) * 2 ^ 12 + v % 2 ^ 12 = ap (λ (n : ℕ). v % 2 ^ n) (add-comm 12 t) ∙ mod-pow-add v t 12 in
     ap₂ (λ (x y : ℕ). frame lo / 2 ^ t * x + y) (pow-add 2 12 t) m ∙ place (frame lo / 2 ^ t) (2 ^ t) (v / 2 ^ 12 % 2 ^ t) (v % 2 ^ 12)
-
--- the answer for an address, moved to another of its page: the same, but for the physical address's offset
-unfoldable pub toward : VAddr → Where → Where
-toward w (Mapped p h) = Mapped (paddr (p .0 / 2 ^ 12 * 2 ^ 12 + w .0 % 2 ^ 12)) h
-toward w (Unmapped p) = Unmapped p
-toward w (Invalid h) = Invalid h
-toward w Refill = Refill
-toward w Double = Double
-toward w AddressError = AddressError
 
 module _ (v w : VAddr) (same : SamePage v w) where
   physical-near : (mask lo : ℕ) → physical mask lo (w .0) ≡ physical mask lo (v .0) / 2 ^ 12 * 2 ^ 12 + w .0 % 2 ^ 12

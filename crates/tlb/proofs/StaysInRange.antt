@@ -17,7 +17,7 @@ use Rattle.tlb.specs.declared.SlotWrite.{SlotWrite}
 use Rattle.tlb.specs.declared.SlotWrite.the-variants.{Keep, Put}
 use Rattle.tlb.specs.PageMask.{run, legalMask}
 use Rattle.tlb.specs.Slot.{slotAt, page, asidOf, withoutG, cleared, bothGlobal, stored, putSlot}
-use Rattle.tlb.specs.Range.{hiInRange, loInRange, slotInRange, slotsInRange, tlbInRange}
+use Rattle.tlb.specs.Range.{hiInRange, loInRange, slotInRange, slotsInRange, tlbInRange, legalWrite}
 use Rattle.tlb.proofs.Agree.{by-bit}
 use Rattle.tlb.proofs.Kept.{cleared-le}
 use Rattle.tlb.proofs.Written.{put-other, put-same}
@@ -117,11 +117,6 @@ in-range-each tlb e j h = slots-each 48 0 tlb e j (omega arith) (omega arith)
 pub each-in-range : (tlb : List ℕ) → ((j : ℕ) → j < 48 → slotInRange (slotAt tlb j) ≡ true) → tlbInRange tlb ≡ true
 unfolding tlbInRange
 each-in-range tlb all = each-slots 48 0 tlb (λ j l h. all j (omega arith))
-
--- the mask of a write is legal, where there is one
-unfoldable pub legalWrite : SlotWrite → Bool
-legalWrite Keep = true
-legalWrite (Put i moved) = legalMask (moved .mask)
 
 -- a write of a legal mask keeps a TLB in range
 pub put-in-range : (tlb : List ℕ) (w : SlotWrite) → length tlb ≡ 192 → tlbInRange tlb ≡ true → legalWrite w ≡ true → tlbInRange (putSlot tlb w) ≡ true

@@ -12,25 +12,25 @@ use Rattle.tlb.specs.Match.{agree, sameSpace, hits, matchesAt, more, see
 use Rattle.tlb.specs.Translate.{vaddr, paddr, halfOf, physical, loOf, through, throughSlot, throughFound, mapped}
 
 -- card 9: 00006000 is legal (B10)
-card9-legal : legalMask 0x6000 ≡ true
+pub card9-legal : legalMask 0x6000 ≡ true
 unfolding legalMask trailingOnes ones onesIn trailingZeros
 card9-legal = refl
 
 -- card 9: 00002000 is not (B10)
-card9-not : legalMask 0x2000 ≡ false
+pub card9-not : legalMask 0x2000 ≡ false
 unfolding legalMask trailingOnes ones onesIn trailingZeros
 card9-not = refl
 
 -- card 10: a TLB whose slot 0 was written with mask 0, EntryHi 00400001, EntryLo0 00000086 and EntryLo1 0
-unfoldable written : List ℕ
+unfoldable pub written : List ℕ
 written = setSlot (replicate 192 0) 0 (stored (slot 0 0x400001 0x86 0))
 
 -- card 10: with ASID 1, 00400123 goes to 2123 (B11)
-card10-goes : mapped written 1 (vaddr 0x400123) ≡ Mapped (paddr 0x2123) (halfOf 0 0 0x86)
+pub card10-goes : mapped written 1 (vaddr 0x400123) ≡ Mapped (paddr 0x2123) (halfOf 0 0 0x86)
 unfolding written setSlot stored cleared bothGlobal mapped lookup seek more matchesAt slotAt hits agree sameSpace throughFound throughSlot through loOf physical pageBits trailingOnes trailingZeros
 card10-goes = refl
 
 -- card 10: and 00401000 is invalid (B11)
-card10-invalid : mapped written 1 (vaddr 0x401000) ≡ Invalid (halfOf 0 1 0)
+pub card10-invalid : mapped written 1 (vaddr 0x401000) ≡ Invalid (halfOf 0 1 0)
 unfolding written setSlot stored cleared bothGlobal mapped lookup seek more matchesAt slotAt hits agree sameSpace throughFound throughSlot through loOf physical pageBits trailingOnes trailingZeros
 card10-invalid = refl

@@ -5,5 +5,6 @@ use Rattle.promise.specs.Pick.{pick}
 use Rattle.tlb.specs.declared.Found.{Found}
 use Rattle.tlb.specs.declared.Found.the-variants.{Absent, One, Many}
 
+-- what a count says
 unfoldable pub foundOf : ℕ → Found
 foundOf n = pick (ltb n 48) (One n) (pick (eqb n 48) Absent Many)

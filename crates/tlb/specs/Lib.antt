@@ -4,6 +4,7 @@ pub mod Slot
 pub mod Match
 pub mod Held
 pub mod Translate
+pub mod SamePage
 pub mod Segments
 pub mod Probe
 pub mod Range

@@ -1,6 +1,7 @@
 -- PageMask: which values are built, and the size of the pages that they give.
-use Prim.Native.Nat.{ℕ, _+_, _-_, _*_, _%_, _^_}
+use Prim.Native.Nat.{ℕ, _+_, _-_, _*_, _%_, _^_, _≤_}
 use mathlib.Core.Bool.{Bool}
+use mathlib.Core.Path.{_≡_}
 use lib.Count.{ones, trailingZeros}
 use lib.Dec.{eqb}
 use Rattle.promise.specs.Bits.{bits}
@@ -28,3 +29,12 @@ pageBits mask = 12 + trailingOnes (run mask)
 -- the bytes of a page: 4096 × 4^k for a run of 2k ones (T2)
 abbrev pub pageBytes : ℕ → ℕ
 pageBytes mask = 2 ^ pageBits mask
+
+-- a mask of 2k ones, for k from 0 to 6, and its pages: what the legal masks are, and no others (T1, T2)
+pub record Size (mask : ℕ) : Type 0 where
+  pub k : ℕ
+  pub small : k ≤ 6
+  pub count : ones (run mask) ≡ 2 * k
+  pub mask-is : mask ≡ (4 ^ k - 1) * 2 ^ 13
+  pub bit-is : pageBits mask ≡ 12 + 2 * k
+  pub bytes-are : pageBytes mask ≡ 4096 * 4 ^ k

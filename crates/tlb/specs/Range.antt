@@ -7,6 +7,8 @@ use lib.Dec.{ltb, eqb}
 use Rattle.promise.specs.Bits.{bits}
 use Rattle.promise.specs.Pick.{both}
 use Rattle.tlb.specs.declared.Slot.{Slot}
+use Rattle.tlb.specs.declared.SlotWrite.{SlotWrite}
+use Rattle.tlb.specs.declared.SlotWrite.the-variants.{Keep, Put}
 use Rattle.tlb.specs.PageMask.{run, legalMask}
 use Rattle.tlb.specs.Slot.{slotAt, page}
 
@@ -30,3 +32,8 @@ slotsInRange (suc left) i tlb = both (slotInRange (slotAt tlb i)) (slotsInRange 
 -- all 48 slots are in range (N24, N25)
 unfoldable pub tlbInRange : List ℕ → Bool
 tlbInRange tlb = slotsInRange 48 0 tlb
+
+-- the mask of a write is legal, where there is one: what T1 and I8 let through
+unfoldable pub legalWrite : SlotWrite → Bool
+legalWrite Keep = true
+legalWrite (Put i moved) = legalMask (moved .mask)

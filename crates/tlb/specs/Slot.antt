@@ -22,26 +22,31 @@ slot mask hi lo0 lo1 = record { mask = mask; hi = hi; lo0 = lo0; lo1 = lo1 }
 unfoldable pub slotAt : List ℕ → ℕ → Slot
 slotAt tlb i = slot (getD tlb (i * 4) 0) (getD tlb (i * 4 + 1) 0) (getD tlb (i * 4 + 2) 0) (getD tlb (i * 4 + 3) 0)
 
--- EntryHi: page number 31..13 and ASID 7..0 (T14); a kept slot holds G in bit 12 between them
+-- the page number in EntryHi, bits 31..13 (T14)
 abbrev pub page : ℕ → ℕ
 page hi = bits hi 13 19
 
+-- the ASID in EntryHi, bits 7..0 (T14)
 abbrev pub asidOf : ℕ → ℕ
 asidOf hi = hi % 2 ^ 8
 
+-- the G of a kept slot, bit 12, between the two (T6)
 abbrev pub globalOf : ℕ → Bool
 globalOf hi = set? hi 12
 
--- EntryLo: frame 29..6, C 5..3, D 2, V 1 (T3)
+-- the frame number in EntryLo, bits 29..6 (T3)
 abbrev pub frame : ℕ → ℕ
 frame lo = bits lo 6 24
 
+-- C in EntryLo, bits 5..3 (T3)
 abbrev pub cacheOf : ℕ → ℕ
 cacheOf lo = bits lo 3 3
 
+-- D in EntryLo, bit 2 (T3)
 abbrev pub dirtyOf : ℕ → Bool
 dirtyOf lo = set? lo 2
 
+-- V in EntryLo, bit 1 (T3)
 abbrev pub validOf : ℕ → Bool
 validOf lo = set? lo 1
 

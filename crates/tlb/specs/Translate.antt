@@ -16,10 +16,11 @@ use Rattle.tlb.specs.PageMask.{trailingOnes, run, pageBits, pageBytes}
 use Rattle.tlb.specs.Slot.{slotAt, frame, cacheOf, dirtyOf, validOf}
 use Rattle.tlb.specs.Match.{lookup}
 
--- addresses of either kind, by their number
+-- the virtual address of a number (D1)
 abbrev pub vaddr : ℕ → VAddr
 vaddr v = record { 0 = v }
 
+-- the physical address of a number (D1)
 abbrev pub paddr : ℕ → PAddr
 paddr p = record { 0 = p }
 

@@ -1,7 +1,7 @@
 -- The whole product of two registers by halves of 32 bits: its rows and columns.
 use mathlib.Core.Path.{_≡_, sym, ap, _∙_}
 use Prim.Native.Nat.{ℕ, _+_, _*_, _/_, _%_, _^_, _≤_, _<_}
-use native.Mathlib.Nat.{add-mul, mul-add, mul-assoc, mul-comm, div-add-mod', mul-le-mul}
+use native.Mathlib.Nat.{add-mul, mul-assoc, mul-comm, div-add-mod', mul-le-mul}
 use native.Mathlib.Omega.{arith}
 
 -- the rows and the columns of a * b

@@ -9,4 +9,5 @@ pub mod ShiftLaws
 pub mod Columns
 pub mod ProductLaws
 pub mod QuotientLaws
+pub mod LogicLaws
 pub mod Once

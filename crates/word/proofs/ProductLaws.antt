@@ -1,9 +1,9 @@
 -- Products over the width: HI and LO are the halves of the number that the product is, cut to twice the width.
-use mathlib.Core.Path.{_≡_, refl, sym, ap, _∙_}
+use mathlib.Core.Path.{_≡_, sym, ap, _∙_}
 use Prim.Native.Nat.{ℕ, zero, suc, _+_, _-_, _*_, _/_, _%_, _^_, _≤_, _<_}
 use native.Mathlib.Nat.{le-of-lt, lt-of-le-of-lt, mul-le-mul-left, mul-lt-mul-of-pos-right, div-lt-iff-lt-mul, div-add-mod', mod-lt, mod-mod, mod-eq-of-lt, mod-self, zero-mod, zero-div, add-mul, mul-pos}
 use native.Mathlib.Omega.{arith}
-use lib.Arith.{digits-div, digits-mod, digits-lt, mod-mul}
+use lib.Arith.{digits-div, digits-mod, mod-mul}
 use lib.Dec.{lit<}
 use lib.IntN.{ℤ, pos, negsuc, negℤ, natAbs, _*ℤ_}
 use lib.Pow.{pow-pos}

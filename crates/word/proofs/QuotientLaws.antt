@@ -1,23 +1,21 @@
 -- Quotients over the width: a signed quotient fits its width, but for the least number by -1; and what the code's division gives.
 use mathlib.Core.Path.{_≡_, refl, sym, ap, _∙_, subst}
-use Prim.Native.Nat.{ℕ, zero, suc, _+_, _-_, _/_, _%_, _^_, _≤_, _<_}
+use Prim.Native.Nat.{ℕ, zero, suc, _-_, _/_, _%_, _^_, _≤_, _<_}
 use native.Mathlib.Nat.{div-le-self, lt-of-le-of-lt, lt-of-lt-of-le, div-one, div-lt-self}
 use native.Mathlib.Numerals.{lt-of-le-of-ne}
 use native.Mathlib.Omega.{arith}
 use borrow.Author.Tests.{eq-eqb, ne-eqb}
-use lib.Dec.{eqb}
 use lib.IntN.{ℤ, pos, negsuc, negℤ, natAbs}
 use lib.Pow.{pow-pos}
 use lib.Signed.{mag, mag-rem, quotZ, remZ}
 use mir.Syntax.{Width, w64}
-use mir.Val.{bits, hbits, Fits, SFits, toZ, ofZ}
+use mir.Val.{bits, hbits, SFits, toZ, ofZ}
 use mir.ValLaws.{pow-bits, toZ-pos, toZ-ofZ, sfits-le}
-use Rattle.promise.specs.Pick.{pick}
 use Rattle.word.specs.declared.HiLo.{HiLo}
 use Rattle.word.specs.Extend.{low, unsigned, signed, register, extend}
 use Rattle.word.specs.Quotient.{towardZero, remainder, byZero, divided, quotient, quotientUnsigned}
 use Rattle.word.proofs.Registers.{holds, signed-fits, signed-back, register-fits}
-use Rattle.word.proofs.CompareLaws.{seen, seen-both}
+use Rattle.word.proofs.CompareLaws.{seen-both}
 
 mag-neg : (r : ℕ) {a : ℕ} → r ≤ suc a → mag (negℤ (pos r)) ≤ a
 mag-neg zero h = omega arith

@@ -1,5 +1,5 @@
 -- Sums and differences over the width: the register that holds one has the low bits of the wrapped sum or difference of registers.
-use mathlib.Core.Path.{_≡_, refl, sym, ap, _∙_}
+use mathlib.Core.Path.{_≡_, sym, ap, _∙_}
 use Prim.Native.Nat.{ℕ, _+_, _-_, _*_, _/_, _%_, _^_, _<_}
 use native.Mathlib.Nat.{mod-lt, mod-mod, add-mod, div-add-mod'}
 use native.Mathlib.Omega.{arith}

@@ -1,7 +1,6 @@
 -- Comparisons of whole registers, as signed and as unsigned numbers over the width.
 use Prim.Native.Nat.{ℕ}
-use mathlib.Core.Bool.{Bool, true, false}
-use lib.IntN.{ℤ}
+use mathlib.Core.Bool.{Bool}
 use lib.Dec.{ltb, eqb}
 use lib.Signed.{ltZ}
 use mir.Syntax.{Width}

@@ -1,10 +1,6 @@
 -- The table holds the map's entry at each code, so at the code of the word.
 use borrow.Author.Needs.{needs}
-use native.Mathlib.Omega.{arith}
-use lib.ListN.{getD}
 use mathlib.Core.Path.{_∙_, ap}
-use Rattle.decode.specs.Maps.{specials}
-use Rattle.decode.specs.Maps.Entry.{reserved}
 use Rattle.decode.specs.Decode.{instruction}
 use Rattle.decode.proofs.Tables.{special-at}
 use Rattle.decode.proofs.instructions.special_word.Statement.{statement}
@@ -20,7 +16,7 @@ instruction-requires : tie.Need-instruction-requires
 instruction-requires c κs = search needs
 
 returns : tie.Need-returns
-returns c = c .instruction .ensures ∙ ap (λ e. instruction e (c .before .before .args .w)) (special-at (c .before .funct .result) (omega (arith, c .before .funct .ensures)) ∙ ap (λ k. getD specials k reserved) (c .before .funct .ensures))
+returns c = c .instruction .ensures ∙ ap (λ e. instruction e (c .before .before .args .w)) (special-at (c .before .before .args .w) (c .before .funct .ensures))
 
 pub special-word-spec : {M : Type 1} → statement M
 special-word-spec = tie.close (tie.spec funct-requires array-read-instruction instruction-requires returns)

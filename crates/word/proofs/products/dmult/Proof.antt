@@ -43,22 +43,42 @@ long-product-requires : tie.Need-long-product-requires
 long-product-requires c κs = search needs
 
 returns : tie.Need-returns
-returns c = same (c .before .before) (both-low w64 (c .before .before .before .before .before .args .a) (c .before .before .before .before .before .args .b) _ _ (c .before .before .before .before .magnitude .ensures) (c .before .before .before .magnitude2 .ensures) (below-half _ (c .before .before .before .before .before .fits .a) (c .before .if1 .taken)) (below-half _ (c .before .before .before .before .before .fits .b) (c .if2 .taken)))
+returns c =
+    let j = c .before .before in
+    let s = j .before .before .before in
+    same j
+    (both-low w64 (s .args .a) (s .args .b) _ _ (j .before .before .magnitude .ensures) (j .before .magnitude2 .ensures)
+    (below-half _ (s .fits .a) (c .before .if1 .taken)) (below-half _ (s .fits .b) (c .if2 .taken)))
 
 turned-requires : tie.Need-turned-requires
 turned-requires c κs = search needs
 
 returns-2 : tie.Need-returns-2
-returns-2 c = turned (c .before .before .before) _ (c .turned .ensures) (low-high w64 (c .before .before .before .before .before .before .args .a) (c .before .before .before .before .before .before .args .b) _ _ (c .before .before .before .before .before .magnitude .ensures) (c .before .before .before .before .magnitude2 .ensures) (below-half _ (c .before .before .before .before .before .before .fits .a) (c .before .before .if1 .taken)) (above-half _ (c .before .before .before .before .before .before .fits .b) (c .before .if2 .left)))
+returns-2 c =
+    let j = c .before .before .before in
+    let s = j .before .before .before in
+    turned j _ (c .turned .ensures)
+    (low-high w64 (s .args .a) (s .args .b) _ _ (j .before .before .magnitude .ensures) (j .before .magnitude2 .ensures)
+    (below-half _ (s .fits .a) (c .before .before .if1 .taken)) (above-half _ (s .fits .b) (c .before .if2 .left)))
 
 turned-requires-2 : tie.Need-turned-requires-2
 turned-requires-2 c κs = search needs
 
 returns-3 : tie.Need-returns-3
-returns-3 c = turned (c .before .before .before) _ (c .turned2 .ensures) (high-low w64 (c .before .before .before .before .before .before .args .a) (c .before .before .before .before .before .before .args .b) _ _ (c .before .before .before .before .before .magnitude .ensures) (c .before .before .before .before .magnitude2 .ensures) (above-half _ (c .before .before .before .before .before .before .fits .a) (c .before .before .if1 .left)) (below-half _ (c .before .before .before .before .before .before .fits .b) (c .before .if3 .taken)))
+returns-3 c =
+    let j = c .before .before .before in
+    let s = j .before .before .before in
+    turned j _ (c .turned2 .ensures)
+    (high-low w64 (s .args .a) (s .args .b) _ _ (j .before .before .magnitude .ensures) (j .before .magnitude2 .ensures)
+    (above-half _ (s .fits .a) (c .before .before .if1 .left)) (below-half _ (s .fits .b) (c .before .if3 .taken)))
 
 returns-4 : tie.Need-returns-4
-returns-4 c = same (c .before .before) (both-high w64 (c .before .before .before .before .before .args .a) (c .before .before .before .before .before .args .b) _ _ (c .before .before .before .before .magnitude .ensures) (c .before .before .before .magnitude2 .ensures) (above-half _ (c .before .before .before .before .before .fits .a) (c .before .if1 .left)) (above-half _ (c .before .before .before .before .before .fits .b) (c .if3 .left)))
+returns-4 c =
+    let j = c .before .before in
+    let s = j .before .before .before in
+    same j
+    (both-high w64 (s .args .a) (s .args .b) _ _ (j .before .before .magnitude .ensures) (j .before .magnitude2 .ensures)
+    (above-half _ (s .fits .a) (c .before .if1 .left)) (above-half _ (s .fits .b) (c .if3 .left)))
 
 pub dmult-spec : {M : Type 1} → statement M
 dmult-spec =

@@ -1,5 +1,5 @@
 -- A product of 64 bits by the products of its halves: each column fits, and the columns add up to the product.
-use Prim.Native.Nat.{ℕ, _*_, _/_, _%_, _^_, _≤_}
+use Prim.Native.Nat.{ℕ, _*_, _/_, _%_, _≤_}
 use native.Mathlib.Omega.{arith}
 use Rattle.word.proofs.Columns.{row, column, halves}
 use Rattle.word.proofs.ProductLaws.{digits}

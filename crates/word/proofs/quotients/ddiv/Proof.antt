@@ -15,15 +15,19 @@ use Rattle.word.proofs.quotients.ddiv.Statement.{statement}
 use Rattle.word.proofs.quotients.ddiv.Tie as tie
 
 -- the divisor is not 0, and the two are not the least number and -1
-other : (c : tie.Joined2) → low w64 (c .before .before .args .b) ≡ 0 → ⊥
-other c e = c .before .if1 .left (sym (low-whole (c .before .before .args .b) (c .before .before .fits .b)) ∙ e)
+module _ (c : tie.Joined2) where
+  abbrev start : tie.Start
+  start = c .before .before
 
-not-least : (c : tie.Joined2) → low w64 (c .before .before .args .a) ≡ 2 ^ 63 → low w64 (c .before .before .args .b) ≡ 2 ^ 64 - 1 → ⊥
-not-least c p q = ⊎-elim (λ w. w .1 .left (sym (low-whole (c .before .before .args .a) (c .before .before .fits .a)) ∙ p)) (λ w. w .left (sym (low-whole (c .before .before .args .b) (c .before .before .fits .b)) ∙ q)) (c .if2 .came)
+  other : low w64 (start .args .b) ≡ 0 → ⊥
+  other e = c .before .if1 .left (sym (low-whole (start .args .b) (start .fits .b)) ∙ e)
 
-division : (c : tie.Joined2) (x y : ℤ) → x ≡ signed w64 (c .before .before .args .a) → y ≡ signed w64 (c .before .before .args .b)
-    → (0 < ofZ w64 y) × SFits w64 (quotZ (toZ w64 (ofZ w64 x)) (toZ w64 (ofZ w64 y)))
-division c x y ex ey = asks w64 (c .before .before .args .a) (c .before .before .args .b) x y ex ey (other c) (not-least c)
+  not-least : low w64 (start .args .a) ≡ 2 ^ 63 → low w64 (start .args .b) ≡ 2 ^ 64 - 1 → ⊥
+  not-least p q = ⊎-elim (λ w. w .1 .left (sym (low-whole (start .args .a) (start .fits .a)) ∙ p)) (λ w. w .left (sym (low-whole (start .args .b) (start .fits .b)) ∙ q)) (c .if2 .came)
+
+  division : (x y : ℤ) → x ≡ signed w64 (start .args .a) → y ≡ signed w64 (start .args .b)
+      → (0 < ofZ w64 y) × SFits w64 (quotZ (toZ w64 (ofZ w64 x)) (toZ w64 (ofZ w64 y)))
+  division x y ex ey = asks w64 (start .args .a) (start .args .b) x y ex ey other not-least
 
 returns : tie.Need-returns
 returns c = by-zero w64 (c .before .args .a) (c .before .args .b) (low-whole (c .before .args .b) (c .before .fits .b) ∙ c .if1 .taken)

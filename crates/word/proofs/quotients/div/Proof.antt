@@ -14,15 +14,19 @@ use Rattle.word.proofs.quotients.div.Statement.{statement}
 use Rattle.word.proofs.quotients.div.Tie as tie
 
 -- the divisor is not 0, and the two are not the least number and -1
-other : (c : tie.Joined2) → low w32 (c .before .before .before .before .args .b) ≡ 0 → ⊥
-other c e = c .before .if1 .left (c .before .before .low-word2 .ensures ∙ e)
+module _ (c : tie.Joined2) where
+  abbrev start : tie.Start
+  start = c .before .before .before .before
 
-not-least : (c : tie.Joined2) → low w32 (c .before .before .before .before .args .a) ≡ 2 ^ 31 → low w32 (c .before .before .before .before .args .b) ≡ 2 ^ 32 - 1 → ⊥
-not-least c p q = ⊎-elim (λ w. w .1 .left (c .before .before .before .low-word .ensures ∙ p)) (λ w. w .left (c .before .before .low-word2 .ensures ∙ q)) (c .if2 .came)
+  other : low w32 (start .args .b) ≡ 0 → ⊥
+  other e = c .before .if1 .left (c .before .before .low-word2 .ensures ∙ e)
 
-division : (c : tie.Joined2) (x y : ℤ) → x ≡ signed w32 (c .before .before .before .before .args .a) → y ≡ signed w32 (c .before .before .before .before .args .b)
-    → (0 < ofZ w32 y) × SFits w32 (quotZ (toZ w32 (ofZ w32 x)) (toZ w32 (ofZ w32 y)))
-division c x y ex ey = asks w32 (c .before .before .before .before .args .a) (c .before .before .before .before .args .b) x y ex ey (other c) (not-least c)
+  not-least : low w32 (start .args .a) ≡ 2 ^ 31 → low w32 (start .args .b) ≡ 2 ^ 32 - 1 → ⊥
+  not-least p q = ⊎-elim (λ w. w .1 .left (c .before .before .before .low-word .ensures ∙ p)) (λ w. w .left (c .before .before .low-word2 .ensures ∙ q)) (c .if2 .came)
+
+  division : (x y : ℤ) → x ≡ signed w32 (start .args .a) → y ≡ signed w32 (start .args .b)
+      → (0 < ofZ w32 y) × SFits w32 (quotZ (toZ w32 (ofZ w32 x)) (toZ w32 (ofZ w32 y)))
+  division x y ex ey = asks w32 (start .args .a) (start .args .b) x y ex ey other not-least
 
 low-word-requires : tie.Need-low-word-requires
 low-word-requires c κs = search needs

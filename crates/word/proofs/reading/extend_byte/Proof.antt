@@ -1,5 +1,4 @@
 -- Sign extension adds ones above the low bits where their highest is set.
-use Prim.Native.Nat.{_^_}
 use lib.Dec.{lit≤}
 use mir.Syntax.{w8}
 use Rattle.word.proofs.Registers.{extend-low, extend-high}

@@ -14,10 +14,16 @@ crosses-requires : tie.Need-crosses-requires
 crosses-requires c κs = search needs
 
 returns : tie.Need-returns
-returns c = sum-checked w64 (c .before .before .before .args .a) (c .before .before .before .args .b) (lit≤ tt) _ _ _ _ _ (whole (c .before .before .before .args .a) (c .before .before .before .fits .a .fits)) (whole (c .before .before .before .args .b) (c .before .before .before .fits .b .fits)) (c .if1 .taken) (c .before .before .daddu .ensures) (c .before .crosses .ensures)
+returns c =
+    let s = c .before .before .before in
+    sum-checked w64 (s .args .a) (s .args .b) (lit≤ tt) _ _ _ _ _ (whole (s .args .a) (s .fits .a .fits)) (whole (s .args .b) (s .fits .b .fits))
+    (c .if1 .taken) (c .before .before .daddu .ensures) (c .before .crosses .ensures)
 
 returns-2 : tie.Need-returns-2
-returns-2 c = sum-checked w64 (c .before .before .before .args .a) (c .before .before .before .args .b) (lit≤ tt) _ _ _ _ _ (whole (c .before .before .before .args .a) (c .before .before .before .fits .a .fits)) (whole (c .before .before .before .args .b) (c .before .before .before .fits .b .fits)) (c .if1 .left) (c .before .before .daddu .ensures) (c .before .crosses .ensures)
+returns-2 c =
+    let s = c .before .before .before in
+    sum-checked w64 (s .args .a) (s .args .b) (lit≤ tt) _ _ _ _ _ (whole (s .args .a) (s .fits .a .fits)) (whole (s .args .b) (s .fits .b .fits))
+    (c .if1 .left) (c .before .before .daddu .ensures) (c .before .crosses .ensures)
 
 pub dadd-spec : {M : Type 1} → statement M
 dadd-spec = tie.close (tie.spec daddu-requires crosses-requires returns returns-2)

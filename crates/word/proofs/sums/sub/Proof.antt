@@ -19,10 +19,16 @@ crosses-requires : tie.Need-crosses-requires
 crosses-requires c κs = search needs
 
 returns : tie.Need-returns
-returns c = difference-checked w32 (c .before .before .before .before .before .args .a) (c .before .before .before .before .before .args .b) (lit≤ tt) _ _ _ _ _ (c .before .before .extend2 .ensures) (c .before .before .before .extend .ensures) (c .if1 .taken) (c .before .before .before .before .subu .ensures) (c .before .crosses .ensures)
+returns c =
+    let s = c .before .before .before .before .before in
+    difference-checked w32 (s .args .a) (s .args .b) (lit≤ tt) _ _ _ _ _ (c .before .before .extend2 .ensures) (c .before .before .before .extend .ensures)
+    (c .if1 .taken) (c .before .before .before .before .subu .ensures) (c .before .crosses .ensures)
 
 returns-2 : tie.Need-returns-2
-returns-2 c = difference-checked w32 (c .before .before .before .before .before .args .a) (c .before .before .before .before .before .args .b) (lit≤ tt) _ _ _ _ _ (c .before .before .extend2 .ensures) (c .before .before .before .extend .ensures) (c .if1 .left) (c .before .before .before .before .subu .ensures) (c .before .crosses .ensures)
+returns-2 c =
+    let s = c .before .before .before .before .before in
+    difference-checked w32 (s .args .a) (s .args .b) (lit≤ tt) _ _ _ _ _ (c .before .before .extend2 .ensures) (c .before .before .before .extend .ensures)
+    (c .if1 .left) (c .before .before .before .before .subu .ensures) (c .before .crosses .ensures)
 
 pub sub-spec : {M : Type 1} → statement M
 sub-spec =

@@ -4,8 +4,8 @@ use borrow.Author.Needs.{needs}
 use mathlib.Core.Path.{_∙_}
 use Rattle.decode.specs.Decode.{move}
 use Rattle.decode.proofs.Laws.{met}
-use Rattle.decode.proofs.instructions.moves.Statement.{statement}
-use Rattle.decode.proofs.instructions.moves.Tie as tie
+use Rattle.decode.proofs.cop0.moves.Statement.{statement}
+use Rattle.decode.proofs.cop0.moves.Tie as tie
 
 moved-requires : tie.Need-moved-requires
 moved-requires c κs = search needs

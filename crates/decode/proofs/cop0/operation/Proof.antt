@@ -4,8 +4,8 @@ use borrow.Author.Needs.{needs}
 use mathlib.Core.Path.{_∙_}
 use Rattle.decode.specs.Decode.{operation}
 use Rattle.decode.proofs.Laws.{met}
-use Rattle.decode.proofs.instructions.operation.Statement.{statement}
-use Rattle.decode.proofs.instructions.operation.Tie as tie
+use Rattle.decode.proofs.cop0.operation.Statement.{statement}
+use Rattle.decode.proofs.cop0.operation.Tie as tie
 
 tlb-requires : tie.Need-tlb-requires
 tlb-requires c κs = search needs

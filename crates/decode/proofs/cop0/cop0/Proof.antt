@@ -2,8 +2,8 @@
 use borrow.Author.Tests.{eq-eqb, ne-eqb}
 use borrow.Author.Needs.{needs}
 use Rattle.decode.specs.Decode.{cop0}
-use Rattle.decode.proofs.instructions.cop0.Statement.{statement}
-use Rattle.decode.proofs.instructions.cop0.Tie as tie
+use Rattle.decode.proofs.cop0.cop0.Statement.{statement}
+use Rattle.decode.proofs.cop0.cop0.Tie as tie
 
 funct-requires : tie.Need-funct-requires
 funct-requires c κs = search needs

@@ -1,3 +1,4 @@
--- What is proved besides the functions: worked examples, and that no contract admits two results.
+-- What is proved besides the functions: a law of wrapping sums, worked examples, and that no contract admits two results.
+pub mod Wrapping
 pub mod Examples
 pub mod Once

@@ -1,6 +1,6 @@
 -- Four times the offset wraps alike with the offset's top two bits cut off first.
-use native.Mathlib.Omega.{arith}
 use Rattle.execute.specs.Branches.{branchTarget}
+use Rattle.execute.proofs.Wrapping.{four-times}
 use borrow.Author.Needs.{needs}
 use Rattle.execute.proofs.branches.branch_target.Statement.{statement}
 use Rattle.execute.proofs.branches.branch_target.Tie as tie
@@ -14,4 +14,4 @@ branch-target-spec =
     (λ c κs. search needs)
     (λ c. search needs)
     (λ c κs. search needs)
-    (λ c. simp (c .before .before .wrapping-add-u64 .ensures, c .before .extend-immediate .ensures, c .wrapping-add-u642 .ensures) (omega arith)))
+    (λ c. simp (c .before .before .wrapping-add-u64 .ensures, c .before .extend-immediate .ensures, c .wrapping-add-u642 .ensures, four-times)))

@@ -1,0 +1,4 @@
+-- The rulebook's lines and frames.
+pub mod Line
+pub mod Digits
+pub mod Frame

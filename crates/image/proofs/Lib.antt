@@ -1,0 +1,4 @@
+-- What the proofs share, and the theorems of images.
+pub mod Turns
+pub mod Reading
+pub mod Once

@@ -1,0 +1,40 @@
+# ./card list: an image for reading, each frame in words, code words disassembled by the MIPS binutils.
+# shellcheck shell=bash
+
+card_list() {
+  local use='./card list IMAGE' status
+  [ $# -ge 1 ] || wrong "the image is missing; write: $use"
+  [ $# -eq 1 ] || wrong "one image is wanted, and here are $# words; write: $use"
+  readable "$1" "an image" "$use"
+  make_scratch
+  take "$1" "$scratch/image" "the image"
+  # NUL has no place in awk; the last line shows whether the text ends with LF
+  { tr '\000' '?' <"$scratch/image" && echo .; } >"$scratch/image.text"
+  : >"$scratch/code"
+  if find_mips; then
+    disassemble
+  else
+    note "code words are not disassembled: install Debian's package $mips_package: apt-get install $mips_package"
+  fi
+  awk_with 'hex names frames fields place list' -v "size=$(wc -c <"$scratch/image")" \
+    "$scratch/image.text" "$scratch/code" >"$scratch/list"
+  status=$?
+  emit "$scratch/list"
+  exit "$status"
+}
+
+# Writes to $scratch/code a line 'LAYER ADDRESS INSTRUCTION' for each word; eight layers are plenty (place.awk).
+disassemble() {
+  local layer
+  for layer in 1 2 3 4 5 6 7 8; do
+    awk_with 'hex names frames fields place srec' -v "layer=$layer" "$scratch/image.text" >"$scratch/code.srec"
+    [ -s "$scratch/code.srec" ] || break
+    "${mips}objdump" -D -z -b srec -m mips:4000 -EB -M gpr-names=32,cp0-names=r4000 "$scratch/code.srec" 2>/dev/null |
+      awk -F '\t' -v "layer=$layer" '/^ *[0-9a-f]+:\t/ {
+        gsub(/[ :]/, "", $1)
+        text = $3
+        for (i = 4; i <= NF; i++) text = text " " $i
+        print layer, substr("00000000" $1, length($1) + 1), text
+      }' >>"$scratch/code"
+  done
+}

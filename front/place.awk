@@ -1,0 +1,43 @@
+# Reads an image's text and says where a program sees its RAM: the pages of the TLB slots, else 80000000 upward.
+# A second frame at one address is a layer of its own. Needs hex.awk, names.awk, frames.awk and fields.awk.
+
+FILENAME ~ /image\.text$/ { text[++lines] = $0; next }
+
+# Takes the mark of the end off the last line; whether the text ended with LF is left in ended.
+function read_image(i) {
+    ended = text[lines] == "."
+    text[lines] = substr(text[lines], 1, length(text[lines]) - 1)
+    if (ended)
+        lines--
+    for (i = 1; i <= lines; i++)
+        if (text[i] ~ /^05/ && !frame_fault(text[i]))
+            slot[number(substr(text[i], 3, 2))] = substr(text[i], 5)
+    for (i = 1; i <= lines; i++)
+        if (text[i] ~ /^02/ && !frame_fault(text[i])) {
+            seen[i] = seen_at(number(substr(text[i], 3, 8)))
+            layer_of[i] = ++times[hex(seen[i], 8)] # as text: large numbers are no exact keys
+        }
+}
+
+# The virtual address of a physical one: by the lowest slot that has a valid page there, else unmapped.
+function seen_at(physical, page) {
+    page = int(physical / 4096)
+    if (!(page in page_seen))
+        page_seen[page] = page_of(page * 4096)
+    return page_seen[page] + physical % 4096
+}
+
+function page_of(physical, place, half, lo, k, size, base, start) {
+    for (place = 0; place < 48; place++)
+        for (half = 0; half < 2; half++) {
+            if (!(place in slot)) continue
+            lo = number(substr(slot[place], 17 + 8 * half, 8))
+            k = mask_size(number(substr(slot[place], 1, 8)))
+            size = 4096 * 4 ^ k
+            base = bits(lo, 6 + 2 * k, 24 - 2 * k) * size
+            start = int(number(substr(slot[place], 9, 8)) / (2 * size)) * 2 * size + half * size
+            if (bits(lo, 1, 1) && physical >= base && physical < base + size)
+                return start + physical - base
+        }
+    return 2147483648 + physical
+}

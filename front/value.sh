@@ -1,0 +1,73 @@
+# The values of image options as frames: numbers, symbols of the program, names of registers.
+# shellcheck shell=bash
+
+# Prints VALUE as 16 digits: decimal; 0x and hexadecimal, where 8 digits are a word, sign-extended; or a symbol.
+value() {
+  local digits
+  if [[ $1 =~ ^-?[0-9]{1,18}$ ]]; then
+    digits=${1#-}
+    while [[ $digits == 0?* ]]; do digits=${digits#0}; done # a leading 0 is no octal here
+    if [[ $1 == -* ]]; then printf '%016x' "-$digits"; else printf '%016x' "$digits"; fi
+  elif [[ $1 =~ ^0[xX]([0-9a-fA-F]{8})$ ]]; then
+    sign_extend "${BASH_REMATCH[1],,}"
+  elif [[ $1 =~ ^0[xX]([0-9a-fA-F]{1,16})$ ]]; then
+    digits=0000000000000000${BASH_REMATCH[1],,}
+    printf '%s' "${digits: -16}"
+  else
+    symbol "$1"
+  fi
+}
+
+# A word of 8 digits as 16.
+sign_extend() { case $1 in [89a-f]*) printf 'ffffffff%s' "$1" ;; *) printf '00000000%s' "$1" ;; esac; }
+
+# The address of a symbol of the program.
+symbol() {
+  local found
+  found=$("${mips}nm" "$scratch/program" 2>/dev/null | awk -v name="$1" '$3 == name { print substr($1, length($1) - 7); exit }')
+  [ -n "$found" ] && sign_extend "$found"
+}
+
+# Splits NAME=VALUE into $left and $right (16 digits): halves OPTION WORD
+halves() {
+  [[ $2 == *?=?* ]] || wrong "$1 wants NAME=VALUE, not '$2'; write: ./card help image"
+  left=${2%%=*}
+  right=$(value "${2#*=}") ||
+    wrong "$1 $2: '${2#*=}' is no number (decimal, or 0x and up to 16 digits) and no symbol of '$program'; write: ./card help image"
+}
+
+register_option() {
+  local left right place
+  halves --reg "$1"
+  place=$(awk_with 'hex names number' -v "kind=register" -v "name=${left,,}") ||
+    wrong "--reg $1: '$left' is no register; write one as 8, r8, t0, hi, lo or pc"
+  [ "$place" != 22 ] || pc_given=yes
+  add "--reg $1" "01$place$right"
+}
+
+cp0_option() {
+  local left right place
+  halves --cp0 "$1"
+  place=$(awk_with 'hex names number' -v "kind=cp0" -v "name=${left,,}") ||
+    wrong "--cp0 $1: '$left' is no CP0 register that the card keeps and lets be written; write a name, as status, or a number, as 12"
+  add "--cp0 $1" "04$place$right"
+}
+
+slot_option() {
+  local word=${1,,} parts part
+  word=${word//0x/}
+  IFS=: read -r -a parts <<<"$word"
+  [[ $word =~ ^[0-9]{1,2}(:[0-9a-f]{1,8}){4}$ ]] ||
+    wrong "--tlb wants SLOT:PAGEMASK:ENTRYHI:ENTRYLO0:ENTRYLO1, a slot from 0 to 47 and four words in hexadecimal, not '$1'"
+  word=$(printf '05%02x' "$((10#${parts[0]}))")
+  for part in "${parts[@]:1}"; do word+=$(printf '%08x' "$((16#$part))"); done
+  add "--tlb $1" "$word"
+}
+
+budget_option() {
+  local digits
+  [[ $1 =~ ^([0-9]{1,10}|0[xX][0-9a-fA-F]{1,8})$ ]] || wrong "--budget wants a number of steps, 0 to 4294967295, not '$1'"
+  if [[ $1 == 0[xX]* ]]; then digits=$((16#${1:2})); else digits=$((10#$1)); fi
+  [ "$digits" -le 4294967295 ] || wrong "--budget wants a number of steps, 0 to 4294967295, not '$1'"
+  add "--budget $1" "03$(printf '%08x' "$digits")"
+}

@@ -1,0 +1,35 @@
+# Runs the cases of cases.txt ('NAME: COMMAND') and compares output, messages and status with expected/NAME.
+# shellcheck shell=bash disable=SC2154
+
+compare_cases() {
+  local line name
+  while IFS= read -r line; do
+    case $line in '' | '#'*) continue ;; esac
+    name=${line%%: *}
+    outcome "${line#*: }" >"$T/outcome"
+    if [ "$1" = --write ]; then
+      cp "$T/outcome" "$tests/expected/$name"
+      ok
+    elif [ ! -f "$tests/expected/$name" ]; then
+      bad "$name: there is no file expected/$name"
+    elif diff "$tests/expected/$name" "$T/outcome" >"$T/difference"; then
+      ok
+    else
+      bad "$name: ${line#*: }"
+      head -n 20 "$T/difference"
+    fi
+  done <"$tests/cases.txt"
+}
+
+# Prints what a command writes and says and its status, without the names of folders on this machine.
+outcome() {
+  local status
+  bash -c "$1" >"$T/wrote" 2>"$T/said" </dev/null
+  status=$?
+  {
+    cat "$T/wrote"
+    [ ! -s "$T/said" ] || echo "--- said"
+    cat "$T/said"
+    echo "--- status $status"
+  } | sed -e "s|$T|TMP|g" -e "s|$root|ROOT|g"
+}

@@ -1,0 +1,58 @@
+# What takes more than one command: examples, help's own examples, closed pipes, the first build.
+# shellcheck shell=bash disable=SC2154
+
+scripted() {
+  examples
+  examples_are_built
+  help_can_be_pasted
+  closed_pipes
+  # shellcheck source=tests/front/first.sh
+  . "$tests/first.sh"
+  first_build
+}
+
+# Each example gives its answer.
+examples() {
+  local source name
+  for source in examples/*.s; do
+    name=$(basename "$source" .s)
+    ./card run "examples/$name.image" >"$T/answer" 2>"$T/said"
+    hold "example $name" cmp "$T/answer" "examples/$name.answer"
+  done
+}
+
+# The stored images, and the stored kernel, are what their sources give.
+examples_are_built() {
+  local file
+  mkdir "$T/built"
+  hold "examples/build" examples/build --into "$T/built"
+  for file in examples/*.image front/kernel.frames; do
+    hold "$file is what its source gives" cmp "$file" "$T/built/$(basename "$file")"
+  done
+}
+
+# Every line of help that begins with two spaces and a command under 'Try:' runs, page by page.
+help_can_be_pasted() {
+  local page
+  for page in front/help/*.txt; do
+    sed -n '/^Try:/,$ s/^  //p' "$page" | grep -v '^\./card test$' | sed "s|/tmp/my|$T/my|g" >"$T/pasted"
+    { echo 'set -e -o pipefail' && cat "$T/pasted"; } >"$T/pasted.sh"
+    bash "$T/pasted.sh" >"$T/wrote" 2>&1
+    hold "examples of $page" [ $? -eq 0 ]
+  done
+}
+
+# A reader that goes away makes no noise, and leaves nothing behind.
+closed_pipes() {
+  local command
+  mkdir "$T/room"
+  for command in 'run examples/sweep.image' 'state examples/sweep.image' 'list examples/sweep.image' 'help' \
+    "image $T/timer.elf" 'explain examples/sweep.answer'; do
+    # shellcheck disable=SC2086
+    TMPDIR=$T/room ./card $command 2>"$T/said" | true
+    # shellcheck disable=SC2086
+    (trap '' PIPE && TMPDIR=$T/room ./card $command 2>>"$T/said") | true
+    hold "closed pipe: ./card $command" [ ! -s "$T/said" ]
+  done
+  hold "temporary files are gone" [ -z "$(ls "$T/room")" ]
+}

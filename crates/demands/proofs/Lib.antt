@@ -1,6 +1,7 @@
 -- The proofs of demands 1 and 2.
 pub mod Stages
 pub mod Branches
+pub mod Why
 pub mod StepStops
 pub mod Twice
 pub mod Runs
@@ -9,6 +10,7 @@ pub mod Fields
 pub mod RunStops
 pub mod Writes
 pub mod Acts
+pub mod Turns
 pub mod Range
 pub mod Stays
 pub mod Example

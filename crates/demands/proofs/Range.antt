@@ -28,23 +28,17 @@ use Rattle.tlb.specs.Probe as probing
 use Rattle.tlb.specs.Translate.{vaddr}
 use Rattle.tlb.specs.Range.{tlbInRange, legalWrite}
 use Rattle.tlb.proofs.Tells.{one-only}
-use Rattle.tlb.proofs.StaysInRange.{in-range-each}
 use Rattle.cp0.specs.declared.Cp0.{Cp0}
 use Rattle.cp0.specs.declared.Exception.{Exception}
 use Rattle.cp0.specs.declared.Exception.the-variants.{Int, Mod}
 use Rattle.cp0.specs.declared.Move.{Move}
 use Rattle.cp0.specs.declared.Move.the-variants.{Built, NotBuilt}
-use Rattle.cp0.specs.Registers.{keptIndex}
 use Rattle.cp0.specs.Status.{interrupted, user, CU0}
 use Rattle.cp0.specs.Moves.{checkMove}
 use Rattle.cp0.specs.Range.{cp0InRange}
 use Rattle.cp0.proofs.InRange.{range-read}
-use Rattle.cp0.proofs.KeepsRange.{linked-in-range, index-found, index-absent, probed-in-range, returned-in-range, entered-in-range}
-use Rattle.cp0.proofs.KeepsRandom.{ended-in-range}
-use Rattle.cp0.proofs.KeepsMoves.{moved-in-range}
-use Rattle.cp0.proofs.KeepsSlots.{slot-read-in-range}
+use Rattle.cp0.proofs.KeepsRange.{index-found, index-absent}
 use Rattle.decode.specs.declared.LoadOp.{LoadOp}
-use Rattle.decode.specs.declared.LoadOp.the-variants as load
 use Rattle.decode.specs.declared.StoreOp.{StoreOp}
 use Rattle.decode.specs.declared.StoreOp.the-variants as store
 use Rattle.decode.specs.declared.TlbOp.{TlbOp}
@@ -64,16 +58,13 @@ use Rattle.effect.specs.declared.Turn.{Turn}
 use Rattle.effect.specs.declared.Turn.the-variants as turn
 use Rattle.effect.specs.declared.Effect.{Effect}
 use Rattle.effect.specs.Effect.{effects, turned, wrote, raised, stopped}
-use Rattle.effect.specs.Access.{linking, got, loaded, sending, sent, saved}
+use Rattle.effect.specs.Access.{got, loaded, sending, sent, saved}
 use Rattle.effect.specs.Step as step
 use Rattle.effect.specs.Step.{leads, moved, fromSlot, fromProbe, tlbDone, movedTo, asked, commanded, executed, readied, begun, fetched, effectOf}
-use Rattle.effect.specs.After.{cp0After}
 use Rattle.demands.proofs.Writes.{goes-small}
+use Rattle.demands.proofs.Turns as fine
+use Rattle.demands.proofs.Turns.{Fine}
 use Rattle.demands.proofs.Acts.{Low, lows, low-executed}
-
--- a turn that leaves CP0 in range
-abbrev pub Fine : Cp0 → Turn → Type 0
-Fine cp0 x = (pc : ℕ) (slot : Bool) → cp0InRange (cp0After pc slot cp0 x) ≡ true
 
 -- an effect that keeps a machine in range
 pub record Keeps (cp0 : Cp0) (e : Effect) : Type 0 where
@@ -82,53 +73,8 @@ pub record Keeps (cp0 : Cp0) (e : Effect) : Type 0 where
   pub slot : legalWrite (e .slot) ≡ true
 
 module _ (cpu : Cpu) (cp0 : Cp0) (regs tlb : List ℕ) (look : PAddr → Eight) (r : cp0InRange cp0 ≡ true) (t : tlbInRange tlb ≡ true) where
-  -- ---- turns
-
   next-fine : Fine cp0 turn.Next
-  unfolding cp0After
-  next-fine pc slot = ended-in-range false cp0 r
-
-  branch-fine : (to : ℕ) → Fine cp0 (turn.Branch to)
-  unfolding cp0After
-  branch-fine to pc slot = ended-in-range false cp0 r
-
-  skip-fine : Fine cp0 turn.Skip
-  unfolding cp0After
-  skip-fine pc slot = ended-in-range false cp0 r
-
-  hilo-fine : (hi lo : ℕ) → Fine cp0 (turn.HiLo hi lo)
-  unfolding cp0After
-  hilo-fine hi lo pc slot = ended-in-range false cp0 r
-
-  link-fine : (p : PAddr) → Fine cp0 (turn.Link p)
-  unfolding cp0After
-  link-fine p pc slot = ended-in-range false _ (linked-in-range cp0 p r)
-
-  enter-fine : (e : Exception) → Fine cp0 (turn.Enter e)
-  unfolding cp0After
-  enter-fine e pc slot = ended-in-range false _ (entered-in-range cp0 pc slot e r)
-
-  move-fine : (n v : ℕ) → checkMove n v ≡ Built → Fine cp0 (turn.Move n v)
-  unfolding cp0After
-  move-fine n v b pc slot = ended-in-range _ _ (moved-in-range cp0 n v b r)
-
-  read-fine : (i : ℕ) → i < 48 → Fine cp0 (turn.Read (shown (slotAt tlb i)))
-  unfolding cp0After
-  read-fine i h pc slot = ended-in-range false _ (slot-read-in-range cp0 (slotAt tlb i) (in-range-each tlb t i h) r)
-
-  probed-fine : (i : ℕ) → keptIndex i ≡ i → Fine cp0 (turn.Probed i)
-  unfolding cp0After
-  probed-fine i k pc slot = ended-in-range false _ (probed-in-range cp0 i k r)
-
-  eret-fine : Fine cp0 turn.Eret
-  unfolding cp0After
-  eret-fine pc slot = ended-in-range false _ (returned-in-range cp0 r)
-
-  stay-fine : Fine cp0 turn.Stay
-  unfolding cp0After
-  stay-fine pc slot = r
-
-  -- ---- stages
+  next-fine = fine.next-fine cp0 tlb r t
 
   plain : (x : Turn) (reg value : ℕ) (s : Store) (n : ℕ) → Fine cp0 x → reg < 32 → Keeps cp0 (effects x reg value Keep s n)
   unfolding legalWrite
@@ -140,36 +86,20 @@ module _ (cpu : Cpu) (cp0 : Cp0) (regs tlb : List ℕ) (look : PAddr → Eight) 
 
   raised-keeps : (e : Exception) → Keeps cp0 (raised e)
   unfolding raised
-  raised-keeps e = turned-keeps (turn.Enter e) (enter-fine e)
+  raised-keeps e = turned-keeps (turn.Enter e) (fine.enter-fine cp0 tlb r t e)
 
   stopped-keeps : (n : ℕ) → Keeps cp0 (stopped n)
   unfolding stopped
-  stopped-keeps n = plain turn.Stay 0 0 _ n stay-fine (omega arith)
+  stopped-keeps n = plain turn.Stay 0 0 _ n (fine.stay-fine cp0 tlb r t) (omega arith)
 
   wrote-keeps : (reg value : ℕ) → reg < 32 → Keeps cp0 (wrote reg value)
   unfolding wrote
   wrote-keeps reg value h = plain turn.Next reg value _ _ next-fine h
 
-  linking-fine : (op : LoadOp) (p : PAddr) → Fine cp0 (linking op p)
-  unfolding linking
-  linking-fine load.LB p = next-fine
-  linking-fine load.LBU p = next-fine
-  linking-fine load.LH p = next-fine
-  linking-fine load.LHU p = next-fine
-  linking-fine load.LW p = next-fine
-  linking-fine load.LWU p = next-fine
-  linking-fine load.LD p = next-fine
-  linking-fine load.LWL p = next-fine
-  linking-fine load.LWR p = next-fine
-  linking-fine load.LDL p = next-fine
-  linking-fine load.LDR p = next-fine
-  linking-fine load.LL p = link-fine p
-  linking-fine load.LLD p = link-fine p
-
   got-keeps : (op : LoadOp) (reg old : ℕ) (p : PAddr) (x : Eight) → reg < 32 → Keeps cp0 (got op reg old p x)
   unfolding got
-  got-keeps op reg old p (Ram n) h = plain _ _ _ _ _ (linking-fine op p) h
-  got-keeps op reg old p (Rom n) h = plain _ _ _ _ _ (linking-fine op p) h
+  got-keeps op reg old p (Ram n) h = plain _ _ _ _ _ (fine.linking-fine cp0 tlb r t op p) h
+  got-keeps op reg old p (Rom n) h = plain _ _ _ _ _ (fine.linking-fine cp0 tlb r t op p) h
   got-keeps op reg old p Missing h = raised-keeps _
 
   loaded-keeps : (op : LoadOp) (reg old : ℕ) (v : VAddr) (x : Where) → reg < 32 → Keeps cp0 (loaded op reg old v look x)
@@ -217,9 +147,9 @@ module _ (cpu : Cpu) (cp0 : Cp0) (regs tlb : List ℕ) (look : PAddr → Eight) 
   unfolding asked lows
   asked-keeps value act.Nothing h = turned-keeps _ next-fine
   asked-keeps value (act.Write reg v) h = wrote-keeps reg v h
-  asked-keeps value (act.HiLo hi lo) h = turned-keeps _ (hilo-fine hi lo)
-  asked-keeps value (act.Branch to reg) h = plain _ _ _ _ _ (branch-fine to) h
-  asked-keeps value (act.Skip reg) h = plain _ _ _ _ _ skip-fine h
+  asked-keeps value (act.HiLo hi lo) h = turned-keeps _ (fine.hilo-fine cp0 tlb r t hi lo)
+  asked-keeps value (act.Branch to reg) h = plain _ _ _ _ _ (fine.branch-fine cp0 tlb r t to) h
+  asked-keeps value (act.Skip reg) h = plain _ _ _ _ _ (fine.skip-fine cp0 tlb r t) h
   asked-keeps value (act.Load op reg at) h = loaded-keeps op reg value at _ h
   asked-keeps value (act.Store op reg at) h = saved-keeps op reg (cpu .link) value at _ h
   asked-keeps value (act.Raise e) h = raised-keeps e
@@ -229,13 +159,13 @@ module _ (cpu : Cpu) (cp0 : Cp0) (regs tlb : List ℕ) (look : PAddr → Eight) 
   from-slot-keeps i = go (ltb i 48) refl
     where
       go : (b : Bool) → ltb i 48 ≡ b → Keeps cp0 (fromSlot (pick b (slotRead.Is (shown (slotAt tlb i))) slotRead.Nothing))
-      go true e = turned-keeps _ (read-fine i (ltb-true _ _ e))
+      go true e = turned-keeps _ (fine.read-fine cp0 tlb r t i (ltb-true _ _ e))
       go false e = turned-keeps _ next-fine
 
   probe-keeps : (x : Found) → lookup tlb (asidOf (cp0 .entryhi)) (vaddr (cp0 .entryhi)) ≡ x → Keeps cp0 (fromProbe (probing.probed x))
   unfolding fromProbe probing.probed
-  probe-keeps Absent e = turned-keeps _ (probed-fine 0x80000000 index-absent)
-  probe-keeps (One i) e = turned-keeps _ (probed-fine i (index-found i (one-only tlb (asidOf (cp0 .entryhi)) (vaddr (cp0 .entryhi)) i e .below)))
+  probe-keeps Absent e = turned-keeps _ (fine.probed-fine cp0 tlb r t 0x80000000 index-absent)
+  probe-keeps (One i) e = turned-keeps _ (fine.probed-fine cp0 tlb r t i (index-found i (one-only tlb (asidOf (cp0 .entryhi)) (vaddr (cp0 .entryhi)) i e .below)))
   probe-keeps Many e = stopped-keeps 16
 
   put-keeps : (i : ℕ) → Keeps cp0 (effects turn.Next 0 0 (Put i (moved cp0)) Nowhere 0)
@@ -251,7 +181,7 @@ module _ (cpu : Cpu) (cp0 : Cp0) (regs tlb : List ℕ) (look : PAddr → Eight) 
 
   moved-keeps : (n v : ℕ) (x : Move) → checkMove n v ≡ x → Keeps cp0 (movedTo n v x)
   unfolding movedTo
-  moved-keeps n v Built e = turned-keeps _ (move-fine n v e)
+  moved-keeps n v Built e = turned-keeps _ (fine.move-fine cp0 tlb r t n v e)
   moved-keeps n v NotBuilt e = stopped-keeps 18
 
   commanded-keeps : (lines : ℕ) (x : Command) → Low (done.Command x) → Keeps cp0 (commanded cp0 tlb lines x)
@@ -259,7 +189,7 @@ module _ (cpu : Cpu) (cp0 : Cp0) (regs tlb : List ℕ) (look : PAddr → Eight) 
   commanded-keeps lines (command.MoveFrom reg n d) h = wrote-keeps reg _ h
   commanded-keeps lines (command.MoveTo n v) h = moved-keeps n v _ refl
   commanded-keeps lines (command.Tlb op) h = tlb-keeps op
-  commanded-keeps lines command.Eret h = turned-keeps _ eret-fine
+  commanded-keeps lines command.Eret h = turned-keeps _ (fine.eret-fine cp0 tlb r t)
 
   executed-keeps : (lines value : ℕ) (x : Executed) → Low x → Keeps cp0 (executed cpu cp0 tlb look lines value x)
   unfolding executed

@@ -9,6 +9,7 @@ use Rattle.demands.specs.Call.{Call, run}
 use Rattle.demands.specs.Refusals.{Accepted}
 use Rattle.demands.specs.Runs.{after, GoOn, next, UsesBudget, StopsWith, Runs}
 use Rattle.demands.proofs.Runs.{On, Stops, ends, ended}
+use Rattle.demands.proofs.StepStops.{stop-least}
 use Rattle.demands.proofs.Refusals.{accepted, refused-kept, is-accepted}
 
 module _ (c : Call) where
@@ -105,6 +106,17 @@ module _ (c : Call) where
       go (no l) d = left (is-accepted c (λ x y. l x)) .within
       go (yes l) (no u) = left (is-accepted c (λ x y. u y)) .within
 
+  numbers : (run c .stop ≤ 4) ⊎ ((16 ≤ run c .stop) × (run c .stop ≤ 19))
+  numbers = go (decLe 1 (run c .stop)) (decLe (run c .stop) 4)
+    where
+      of : Accepted c → AllOn ⊎ OneStops → (run c .stop ≤ 4) ⊎ ((16 ≤ run c .stop) × (run c .stop ≤ 19))
+      of a (inl o) = let z = all-stop a o in inl (omega arith)
+      of a (inr t) = inr (rw (stop-of a t) (stop-least _ _ _ _ (t .stop)))
+
+      go : Dec (1 ≤ run c .stop) → Dec (run c .stop ≤ 4) → (run c .stop ≤ 4) ⊎ ((16 ≤ run c .stop) × (run c .stop ≤ 19))
+      go l (yes u) = inl u
+      go l (no u) = of (is-accepted c (λ x y. u y)) how
+
   pub runs : Runs c
   runs =
       record {
@@ -113,6 +125,7 @@ module _ (c : Call) where
         seventeen = (stops 17 (omega arith), stopped 17 (omega arith));
         eighteen = (stops 18 (omega arith), stopped 18 (omega arith));
         nineteen = (stops 19 (omega arith), stopped 19 (omega arith));
+        no-other = numbers;
         within-budget = within;
         all-used = λ e. let u = uses e in all-steps (u .accepted) (record { no-stop = u .go-on .no-stop; all-counted = u .go-on .all-counted });
         counted = λ a. left a .counted;

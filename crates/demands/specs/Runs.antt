@@ -2,7 +2,7 @@
 use Prim.Native.Nat.{ℕ, _+_, _<_, _≤_}
 use mathlib.Core.Path.{_≡_}
 use mathlib.Core.List.{List}
-use mathlib.Core.Logic.{_↔_}
+use mathlib.Core.Logic.{_↔_, _⊎_}
 use lib.Dec.{eqb}
 use Rattle.promise.specs.Pick.{pick}
 use Rattle.card.specs.declared.Machine.{Machine}
@@ -37,13 +37,14 @@ pub record StopsWith (c : Call) (n : ℕ) : Type 0 where
   pub go-on : GoOn c before
   pub stops : next c before .stop ≡ n
 
--- of every call: its stop is given just in its case; the steps that it counts are those that went on, at most the budget, and what it leaves is what they left
+-- of every call: its stop is given just in its case and there is no other than these and the refusals; the steps that it counts are those that went on, at most the budget, and what it leaves is what they left
 pub record Runs (c : Call) : Type 0 where
   pub zero : (run c .stop ≡ 0) ↔ UsesBudget c
   pub sixteen : (run c .stop ≡ 16) ↔ StopsWith c 16
   pub seventeen : (run c .stop ≡ 17) ↔ StopsWith c 17
   pub eighteen : (run c .stop ≡ 18) ↔ StopsWith c 18
   pub nineteen : (run c .stop ≡ 19) ↔ StopsWith c 19
+  pub no-other : (run c .stop ≤ 4) ⊎ ((16 ≤ run c .stop) × (run c .stop ≤ 19))
   pub within-budget : run c .steps ≤ c .budget
   pub all-used : run c .stop ≡ 0 → run c .steps ≡ c .budget
   pub counted : Accepted c → GoOn c (run c .steps)

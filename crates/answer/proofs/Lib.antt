@@ -1,0 +1,2 @@
+-- Why the functions meet their definitions.
+pub mod Laws

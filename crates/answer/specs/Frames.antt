@@ -46,10 +46,6 @@ registerFrame number value = frame 0x01 2 number 16 value
 abbrev pub cp0Frame : ℕ → ℕ → List ℕ
 cp0Frame number value = frame 0x04 2 number 16 value
 
--- `02`: a physical address and its eight bytes (I5)
-abbrev pub memoryFrame : ℕ → ℕ → List ℕ
-memoryFrame address value = frame 0x02 8 address 16 value
-
 -- a flag as a number
 unfoldable pub flag : Bool → ℕ
 flag b = pick b 1 0
@@ -76,13 +72,9 @@ PC = 0x22
 unfoldable pub register : Cpu → List ℕ → ℕ → ℕ
 register c regs i = pick (ltb i HI) (getD regs i 0) (pick (eqb i HI) (c .hi) (pick (eqb i LO) (c .lo) (c .pc)))
 
--- a register's frame, only where it is not zero (I13)
-unfoldable pub nonZero : Cpu → List ℕ → ℕ → List ℕ
-nonZero c regs i = pick (eqb (register c regs i) 0) [] (registerFrame i (register c regs i))
-
--- a register's frame, zero or not (house)
-unfoldable pub whole : Cpu → List ℕ → ℕ → List ℕ
-whole c regs i = registerFrame i (register c regs i)
+-- a frame with a value of 16 digits, only where the value is not zero (I13)
+unfoldable pub nonZero : ℕ → ℕ → ℕ → ℕ → List ℕ
+nonZero tag n x value = pick (eqb value 0) [] (frame tag n x 16 value)
 
 -- a CP0 register's frame, where it is kept: the value as a doubleword move gives it, Cause without the lines (house; T12, T15)
 unfoldable pub keptFrame : Cp0 → ℕ → List ℕ
@@ -93,19 +85,19 @@ unfoldable pub readFrame : ℕ → SlotRead → List ℕ
 readFrame i (Is s) = slotFrame i s
 readFrame i Nothing = []
 
--- the frame of eight bytes of RAM, only where they are not zero (house; I5)
-unfoldable pub eightFrame : ℕ → Eight → List ℕ
-eightFrame a (Ram x) = pick (eqb x 0) [] (memoryFrame a x)
-eightFrame a (Rom x) = []
-eightFrame a Missing = []
+-- the number that eight bytes of RAM are; 0 where RAM has none
+unfoldable pub ofRam : Eight → ℕ
+ofRam (Ram x) = x
+ofRam (Rom x) = 0
+ofRam Missing = 0
 
--- line i of each part of the state: the registers that are not zero; all registers; CP0; the TLB; RAM, eight bytes a line
+-- line i of each part of the state: the registers that are not zero (I13); all registers, CP0, the TLB, and the doublewords of RAM that are not zero (house)
 unfoldable pub lineOf : Part → Machine → List ℕ → ℕ → List ℕ
-lineOf NonZero m ram i = nonZero (m .cpu) (m .regs) i
-lineOf Registers m ram i = whole (m .cpu) (m .regs) i
+lineOf NonZero m ram i = nonZero 0x01 2 i (register (m .cpu) (m .regs) i)
+lineOf Registers m ram i = registerFrame i (register (m .cpu) (m .regs) i)
 lineOf Kept m ram i = keptFrame (m .cp0) i
 lineOf Slots m ram i = readFrame i (readSlot (m .tlb) i)
-lineOf Memory m ram i = eightFrame (i * 8) (read ram [] (record { 0 = i * 8 }))
+lineOf Memory m ram i = nonZero 0x02 8 (i * 8) (ofRam (read ram [] (record { 0 = i * 8 })))
 
 -- n lines one after the other, from line i on
 unfoldable pub each : (ℕ → List ℕ) → ℕ → ℕ → List ℕ

@@ -92,7 +92,7 @@ proved_states() {
   done
 }
 
-# Compares the whole states after all images of a file in $scratch: compare_states FILE
+# Compares the whole states after all images of a file in $scratch by cardstate: compare_states FILE
 compare_states() {
   local image
   split_images "$1"
@@ -103,6 +103,24 @@ compare_states() {
     return
   fi
   for image in "$scratch"/images/*; do compare_one cardstate "$image"; done
+}
+
+# Compares the whole states after all images of a file in $scratch by the program vectors; where they differ, one by one: compare_many FILE
+compare_many() {
+  local image before=$failed
+  "$second/answers2" "$1" >"$scratch/answers" || fail "answers2 ended with status $?"
+  "$second/differences2" <"$scratch/answers" >"$scratch/wanted" || fail "differences2 ended with status $?"
+  (cd "$scratch" && of_proved vectors) <"$1" >"$scratch/given"
+  if cmp -s "$scratch/wanted" "$scratch/given"; then
+    passed=$((passed + $(grep -c '^# ' "$scratch/wanted")))
+    return
+  fi
+  for image in "$scratch"/images/*; do compare_one cardstate "$image"; done
+  if [ "$failed" -eq "$before" ]; then
+    failed=$((failed + 1))
+    echo "FAILED: vectors differs from the second emulator where cardstate does not"
+    diff -a "$scratch/given" "$scratch/wanted" | head -n 12
+  fi
 }
 
 # Compares both answers of one program to one image; the header's words count for cardstate only: compare_one PROGRAM IMAGE

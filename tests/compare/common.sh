@@ -18,7 +18,7 @@ fail() {
   exit 1
 }
 
-# Makes both emulators' programs where they are missing or old: prepare NAME..
+# Makes the second emulator, and proved programs, where they are missing or old: prepare [NAME..]
 # CARD_BIN, if set, names a folder with other programs in place of the proved ones; they run as they are.
 prepare() {
   local name
@@ -26,6 +26,8 @@ prepare() {
   second=$root/second/target/release
   cargo build --quiet --release --offline --manifest-path "$root/second/Cargo.toml" --target-dir "$root/second/target" ||
     fail "the second emulator, second/, cannot be built"
+  make_scratch
+  [ $# -gt 0 ] || return 0
   if [ -n "${CARD_BIN:-}" ]; then
     proved=$(cd "$CARD_BIN" && pwd -P) || fail "CARD_BIN is '$CARD_BIN', and there is no such folder"
     runner=()
@@ -35,7 +37,6 @@ prepare() {
     for name in "$@"; do built "$name" || build "$name"; done
   fi
   for name in ${!QEMU_@}; do unset "$name"; done
-  make_scratch
 }
 
 # The two answers to the image on standard input: of_proved NAME [LINES [ROM]], of_second NAME [LINES [ROM]]
@@ -58,13 +59,24 @@ split_images() {
   csplit -s -z -n 6 -f "$scratch/images/" "$1" '/^# /' '{*}' || fail "$1 cannot be split into its images"
 }
 
-# Sets $words to the words of a header after its name: LINES and, where there is one, the ROM's file.
+# Writes the curated images and the second emulator's answers as the program vectors takes them: write_vectors FOLDER
+# $scratch/many has the images too, with their ROMs beside it.
+write_vectors() {
+  mkdir -p "$1/data"
+  {
+    "$second/vectors2" roms "$scratch" && "$second/vectors2" roms "$1/data" &&
+      "$second/vectors2" >"$1/stdin" && cp "$1/stdin" "$scratch/many" &&
+      "$second/answers2" "$scratch/many" >"$scratch/answers" &&
+      "$second/differences2" <"$scratch/answers" >"$1/stdout"
+  } || fail "the second emulator cannot write its vectors"
+}
+
+# Sets $name and $words by a header: words are LINES and, where there is one, the ROM's file.
 words_of() {
-  local hash title lines rom
-  read -r hash title lines rom <<<"$1"
+  local lines rom
+  read -r _ name lines rom <<<"$1"
   words=("$lines")
   [ "$rom" = - ] || words+=("$scratch/$rom")
-  name=$title
 }
 
 # Prints the proved answers to the images of $scratch/images as answers2 prints the second emulator's.
@@ -80,7 +92,7 @@ proved_states() {
   done
 }
 
-# Compares the whole states after all images of a file in $scratch: compare_states FILE
+# Compares the whole states after all images of a file in $scratch by cardstate: compare_states FILE
 compare_states() {
   local image
   split_images "$1"
@@ -91,6 +103,24 @@ compare_states() {
     return
   fi
   for image in "$scratch"/images/*; do compare_one cardstate "$image"; done
+}
+
+# Compares the whole states after all images of a file in $scratch by the program vectors; where they differ, one by one: compare_many FILE
+compare_many() {
+  local image before=$failed
+  "$second/answers2" "$1" >"$scratch/answers" || fail "answers2 ended with status $?"
+  "$second/differences2" <"$scratch/answers" >"$scratch/wanted" || fail "differences2 ended with status $?"
+  (cd "$scratch" && of_proved vectors) <"$1" >"$scratch/given"
+  if cmp -s "$scratch/wanted" "$scratch/given"; then
+    passed=$((passed + $(grep -c '^# ' "$scratch/wanted")))
+    return
+  fi
+  for image in "$scratch"/images/*; do compare_one cardstate "$image"; done
+  if [ "$failed" -eq "$before" ]; then
+    failed=$((failed + 1))
+    echo "FAILED: vectors differs from the second emulator where cardstate does not"
+    diff -a "$scratch/given" "$scratch/wanted" | head -n 12
+  fi
 }
 
 # Compares both answers of one program to one image; the header's words count for cardstate only: compare_one PROGRAM IMAGE

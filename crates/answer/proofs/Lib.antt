@@ -1,0 +1,4 @@
+-- Why the functions meet their definitions.
+pub mod Laws
+pub mod Once
+pub mod Worked

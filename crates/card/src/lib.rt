@@ -1,18 +1,21 @@
 // The card: the machine, one step of it, and a run.
 mod calls;
 mod inner;
+mod lent;
 mod range;
 mod runs;
+mod start;
 
 pub use calls::refusal;
 use cp0::Cp0;
 use effect::Cpu;
 pub use inner::core;
 pub use inner::put_reg;
-pub use range::fresh;
+pub use lent::step_in;
 pub use range::in_range;
 pub use runs::run;
 pub use runs::step;
+pub use start::fresh;
 
 // The whole machine but for its memory; `tlb` holds 48 slots of four numbers.
 pub struct Machine {

@@ -2,3 +2,6 @@
 pub mod Turns
 pub mod Reading
 pub mod Once
+pub mod InRange
+pub mod Cases
+pub mod Exact

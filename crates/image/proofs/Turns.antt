@@ -22,7 +22,7 @@ use Rattle.image.specs.Image.{image, loadedBy, Has}
 use Rattle.image.specs.Acts.{Loaded, loaded, act, acts, Did}
 
 -- after the budget no line passes
-after-refused : (f : Frame) (a b : Bool) → isFrame f ≡ a → allowed f ≡ b → refusalOf true f ≡ 0 → ⊥
+pub after-refused : (f : Frame) (a b : Bool) → isFrame f ≡ a → allowed f ≡ b → refusalOf true f ≡ 0 → ⊥
 unfolding refusalOf
 after-refused f true true p q h = let z : _≡_ {A = ℕ} 8 0 = simp (p, q) at h in absurd (omega arith)
 after-refused f true false p q h = let z : _≡_ {A = ℕ} 7 0 = simp (p, q) at h in absurd (omega arith)

@@ -9,6 +9,7 @@ use Rattle.memory.specs.Stores.{sd, putBytes}
 use Rattle.tlb.specs.declared.Slot as tlb
 use Rattle.tlb.specs.declared.SlotWrite.the-variants.{Put}
 use Rattle.tlb.specs.Slot.{slot, putSlot}
+use Rattle.cp0.specs.declared.Cp0 as cp0
 use Rattle.cp0.specs.Registers.{keptEntryHi, keptEntryLo}
 use Rattle.cp0.specs.Moves.{moveIn}
 use Rattle.effect.specs.declared.Cpu.{Cpu}
@@ -67,6 +68,10 @@ act s (Slot index mask hi lo0 lo1) =
     (s .ram)
     (s .budget)
 act s NotFrame = s
+
+-- what the code hands back of it
+abbrev pub acted : Cpu → cp0.Cp0 → ℕ → Acted
+acted cpu c budget = record { cpu = cpu; cp0 = c; budget = budget }
 
 -- the code did it: what it returned and left behind is what the frame leaves
 pub record Did (o : Loaded) (r : Acted) (regs tlb ram : List ℕ) : Type 0 where

@@ -54,6 +54,13 @@ fn moved(mask: u64, hi: u64, lo0: u64, lo1: u64) -> Slot
     }
 }
 
+// What a frame hands back.
+fn acted(cpu: Cpu, cp0: Cp0, budget: u64) -> Acted
+    ensures { λ r. ⌜ r ≡ T.acted cpu cp0 budget ⌝ }
+{
+    Acted { cpu, cp0, budget }
+}
+
 // What a frame does.
 pub fn act(
     f: Frame,
@@ -69,30 +76,14 @@ pub fn act(
     match f {
         Frame::Register { number, value } => {
             put_register(&mut *regs, number, value);
-            let c = cpu_set(cpu, number, value);
-            Acted {
-                cpu: c,
-                cp0,
-                budget,
-            }
+            acted(cpu_set(cpu, number, value), cp0, budget)
         }
         Frame::Memory { address, value } => {
             memory::put_bytes(&mut *ram, memory::sd(PAddr(address), value));
-            Acted { cpu, cp0, budget }
+            acted(cpu, cp0, budget)
         }
-        Frame::Budget(n) => Acted {
-            cpu,
-            cp0,
-            budget: n,
-        },
-        Frame::Cp0 { number, value } => {
-            let z = cp0::move_in(cp0, number, value);
-            Acted {
-                cpu,
-                cp0: z,
-                budget,
-            }
-        }
+        Frame::Budget(n) => acted(cpu, cp0, n),
+        Frame::Cp0 { number, value } => acted(cpu, cp0::move_in(cp0, number, value), budget),
         Frame::Slot {
             index,
             mask,
@@ -102,8 +93,8 @@ pub fn act(
         } => {
             let s = moved(mask, hi, lo0, lo1);
             tlb::put_slot(&mut *tlb, SlotWrite::Put { index, moved: s });
-            Acted { cpu, cp0, budget }
+            acted(cpu, cp0, budget)
         }
-        Frame::NotFrame => Acted { cpu, cp0, budget },
+        Frame::NotFrame => acted(cpu, cp0, budget),
     }
 }

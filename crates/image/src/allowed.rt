@@ -12,7 +12,7 @@ pub const LO: usize = 0x21;
 pub const PC: usize = 0x22;
 
 // Whether a CP0 register is kept.
-pub fn kept_number(n: usize) -> bool
+fn kept_number(n: usize) -> bool
     ensures { λ r. ⌜ r ≡ W.keptNumber n ⌝ }
 {
     if n <= 6 {
@@ -31,7 +31,7 @@ pub fn kept_number(n: usize) -> bool
 }
 
 // `01`: a register, HI, LO or PC; r0 only with value 0.
-pub fn register_allowed(number: usize, value: u64) -> bool
+fn register_allowed(number: usize, value: u64) -> bool
     ensures { λ r. ⌜ r ≡ W.registerAllowed number value ⌝ }
 {
     if PC < number {
@@ -44,7 +44,7 @@ pub fn register_allowed(number: usize, value: u64) -> bool
 }
 
 // `02`: a multiple of 8, at most 0000fff8.
-pub fn address_allowed(address: u64) -> bool
+fn address_allowed(address: u64) -> bool
     ensures { λ r. ⌜ r ≡ W.addressAllowed address ⌝ }
 {
     if address % 8 != 0 {
@@ -54,7 +54,7 @@ pub fn address_allowed(address: u64) -> bool
 }
 
 // `04`: a number that is kept, and a move that would not be 18.
-pub fn move_allowed(number: usize, value: u64) -> bool
+fn move_allowed(number: usize, value: u64) -> bool
     ensures { λ r. ⌜ r ≡ W.moveAllowed number value ⌝ }
 {
     if !kept_number(number) {
@@ -67,7 +67,7 @@ pub fn move_allowed(number: usize, value: u64) -> bool
 }
 
 // `05`: a slot of at most 2f, and a legal mask.
-pub fn slot_allowed(index: usize, mask: u64) -> bool
+fn slot_allowed(index: usize, mask: u64) -> bool
     ensures { λ r. ⌜ r ≡ W.slotAllowed index mask ⌝ }
 {
     if 0x2f < index {

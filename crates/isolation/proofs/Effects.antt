@@ -38,7 +38,7 @@ use Rattle.decode.specs.declared.StoreOp.{StoreOp}
 use Rattle.decode.specs.declared.StoreOp.the-variants as store
 use Rattle.decode.specs.Fields.{rs, rt}
 use Rattle.decode.specs.Decode.{decode}
-use Rattle.decode.specs.Ready.{isCp0, isBranch, usable, ready}
+use Rattle.decode.specs.Ready.{isCp0, isBranch, inPlace, allowed, usable, reservedCop0, ready}
 use Rattle.decode.specs.Doubleword.{isDouble}
 use Rattle.execute.specs.declared.Act.{Act}
 use Rattle.execute.specs.declared.Act.the-variants as act
@@ -157,14 +157,14 @@ never b t f = let z : _≡_ {A = ℕ} 0 1 = cc in absurd (omega arith)
 
 -- where CP0 is locked no CP0 instruction goes on
 goes-plain : (slot : Bool) (d : Decoded) (i : Instr) → ready true false slot d ≡ Go i → isCp0 i ≡ false
-unfolding ready usable
+unfolding ready usable allowed inPlace reservedCop0
 goes-plain slot (decoded.Is j) i e = go (isCp0 j) refl (isDouble j) refl (both slot (isBranch j)) refl
   where
     go : (a : Bool) → isCp0 j ≡ a → (b : Bool) → isDouble j ≡ b → (c : Bool) → both slot (isBranch j) ≡ c → isCp0 i ≡ false
-    go true p b q c r = let z : _≡_ {A = ℕ} 0 1 = cc in absurd (omega arith)
-    go false p true q c r = let z : _≡_ {A = ℕ} 0 1 = cc in absurd (omega arith)
-    go false p false q true r = let z : _≡_ {A = ℕ} 0 1 = cc in absurd (omega arith)
-    go false p false q false r = cc
+    go true p b q c r = let f : Unusable 0 ≡ Go i = rw p at e in let z : _≡_ {A = ℕ} 0 1 = cc in absurd (omega arith)
+    go false p true q c r = let f : Reserved ≡ Go i = rw (p, q) at e in let z : _≡_ {A = ℕ} 0 1 = cc in absurd (omega arith)
+    go false p false q true r = let f : InSlot ≡ Go i = rw (p, q, r) at e in let z : _≡_ {A = ℕ} 0 1 = cc in absurd (omega arith)
+    go false p false q false r = let f : Go j ≡ Go i = rw (p, q, r) at e in let g : j ≡ i = cc in ap isCp0 (sym g) ∙ p
 goes-plain slot (decoded.Coprocessor n) i e = let z : _≡_ {A = ℕ} 0 1 = cc in absurd (omega arith)
 goes-plain slot decoded.ReservedCop0 i e = let z : _≡_ {A = ℕ} 0 1 = cc in absurd (omega arith)
 goes-plain slot decoded.Reserved i e = let z : _≡_ {A = ℕ} 0 1 = cc in absurd (omega arith)
@@ -280,7 +280,7 @@ module _ (cpu : Cpu) (cp0 : Cp0) (regs tlb : List ℕ) (u : user (cp0 .status) �
 
   -- every instruction but CP0's is plain
   executed-good : (i : Instr) (lines value a b : ℕ) → isCp0 i ≡ false → Good cp0 tlb (executed cpu cp0 tlb look lines value (execute i (cpu .pc) a b (cpu .hi) (cpu .lo)))
-  unfolding executed execute isCp0
+  unfolding executed execute
   executed-good (instr.Load op s t o) lines value a b f = asked-good value _
   executed-good (instr.Store op s t o) lines value a b f = asked-good value _
   executed-good (instr.Arithmetic op s t d) lines value a b f = asked-good value _

@@ -127,14 +127,14 @@ module _ (tlb : List ℕ) (a : ℕ) (rom : List ℕ) (lines : ℕ) where
 -- ---- the run
 
 -- an accepted run is its steps
-accepted : (w : World) → refusal (w .machine) (w .ram) (w .rom) (w .lines) ≡ 0 → (n : ℕ) → run w n ≡ steps (w .rom) (w .lines) n (w .machine) (w .ram)
+pub accepted-run : (w : World) → refusal (w .machine) (w .ram) (w .rom) (w .lines) ≡ 0 → (n : ℕ) → run w n ≡ steps (w .rom) (w .lines) n (w .machine) (w .ram)
 unfolding runOf
-accepted w r n = rw r
+accepted-run w r n = rw r
 
 user-steps : (w : World) → refusal (w .machine) (w .ram) (w .rom) (w .lines) ≡ 0 → (n : ℕ) → UserFor n w → UserSteps (w .rom) (w .lines) n (w .machine) (w .ram)
 user-steps w r n U k l =
     let u = U k l in
-    let g = accepted w r k in
+    let g = accepted-run w r k in
     (ap (λ (x : Whole). x .stop) (sym g) ∙ u .0, ap (λ (x : Whole). inUser (x .machine)) (sym g) ∙ u .1)
 
 starts-viewed : (w : World) → UserWorld w → Views (w .machine .tlb) (asid (w .machine)) (w .machine)
@@ -142,7 +142,7 @@ starts-viewed w W u = (refl, refl, W .locked)
 
 pub isolation : Isolation
 isolation w₁ w₂ W₁ W₂ A n U =
-    whole-run (accepted w₂ (W₂ .accepted) n ∙ (λ i. steps (w₂ .rom) (sym (A .lines) i) n (sym (A .machine) i) (w₂ .ram)))
+    whole-run (accepted-run w₂ (W₂ .accepted) n ∙ (λ i. steps (w₂ .rom) (sym (A .lines) i) n (sym (A .machine) i) (w₂ .ram)))
   where
     S : SameWhole (w₁ .machine .tlb) (asid (w₁ .machine)) (steps (w₁ .rom) (w₁ .lines) n (w₁ .machine) (w₁ .ram)) (steps (w₂ .rom) (w₁ .lines) n (w₁ .machine) (w₂ .ram))
     S =
@@ -151,7 +151,7 @@ isolation w₁ w₂ W₁ W₂ A n U =
 
     whole-run : run w₂ n ≡ steps (w₂ .rom) (w₁ .lines) n (w₁ .machine) (w₂ .ram) → SameRun w₁ w₂ n
     whole-run e =
-        let d = accepted w₁ (W₁ .accepted) n in
+        let d = accepted-run w₁ (W₁ .accepted) n in
         record {
           machine = rw (d, e) (S .machine);
           steps = rw (d, e) (S .steps);
@@ -161,5 +161,5 @@ isolation w₁ w₂ W₁ W₂ A n U =
 
 pub confinement : Confinement
 confinement w W n U =
-    rw (accepted w (W .accepted) n)
+    rw (accepted-run w (W .accepted) n)
     (steps-kept (w .machine .tlb) (asid (w .machine)) (w .rom) (w .lines) n (w .machine) (w .ram) (starts-viewed w W) (user-steps w (W .accepted) n U))

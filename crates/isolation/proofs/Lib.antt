@@ -2,3 +2,4 @@ pub mod Near
 pub mod Effects
 pub mod Step
 pub mod Isolation
+pub mod Example

@@ -22,12 +22,11 @@ use Rattle.tlb.specs.declared.SlotWrite.the-variants.{Keep}
 use Rattle.tlb.specs.Slot.{asidOf, putSlot}
 use Rattle.cp0.specs.declared.Cp0.{Cp0}
 use Rattle.cp0.specs.declared.Exception.{Exception}
-use Rattle.cp0.specs.declared.Bad.{Bad}
-use Rattle.cp0.specs.declared.Bad.the-variants as bad
-use Rattle.cp0.specs.Registers.{set, linked}
-use Rattle.cp0.specs.Status.{CU0, KSU, user}
-use Rattle.cp0.specs.Exceptions.{addressed, entered, told}
+use Rattle.cp0.specs.Registers.{linked}
+use Rattle.cp0.specs.Status.{CU0, user}
+use Rattle.cp0.specs.Exceptions.{entered}
 use Rattle.cp0.specs.Tick.{ended}
+use Rattle.cp0.proofs.Modes.{entered-not-user, ended-status, ended-entryhi, linked-status, linked-entryhi}
 use Rattle.effect.specs.declared.Turn.{Turn}
 use Rattle.effect.specs.declared.Turn.the-variants as turn
 use Rattle.effect.specs.declared.Effect.{Effect}
@@ -86,41 +85,6 @@ stored-kept tlb a ram s c = record { long = length-put ram s; same = λ k n. unc
 
 -- ---- CP0
 
--- after an exception the machine is not in User mode
-exl-not-user : (s : ℕ) → user (s / 2 ^ 2 * 2 ^ 2 + 1 * 2 ^ 1 + s % 2 ^ 1) ≡ false
-unfolding user
-exl-not-user s = let e : (s / 2 ^ 2 * 2 ^ 2 + 1 * 2 ^ 1 + s % 2 ^ 1) / 2 ^ 1 % 2 ≡ 1 = omega arith in rw (eq-eqb _ 1 e) (go (eqb (KSU (s / 2 ^ 2 * 2 ^ 2 + 1 * 2 ^ 1 + s % 2 ^ 1)) 2))
-  where
-    go : (b : Bool) → pick b false false ≡ false
-    go true = refl
-    go false = refl
-
-addressed-status : (c : Cp0) (b : Bad) → addressed c b .status ≡ c .status
-unfolding addressed set
-addressed-status c bad.Nothing = refl
-addressed-status c (bad.Address v) = refl
-addressed-status c (bad.Page v) = refl
-
-entered-status : (c : Cp0) (pc : ℕ) (slot : Bool) (e : Exception) → entered c pc slot e .status ≡ c .status / 2 ^ 2 * 2 ^ 2 + 1 * 2 ^ 1 + c .status % 2 ^ 1
-unfolding entered set
-entered-status c pc slot e = addressed-status _ (told e .bad) ∙ refl
-
-ended-status : (w : Bool) (c : Cp0) → ended w c .status ≡ c .status
-unfolding ended set
-ended-status w c = refl
-
-ended-entryhi : (w : Bool) (c : Cp0) → ended w c .entryhi ≡ c .entryhi
-unfolding ended set
-ended-entryhi w c = refl
-
-linked-status : (c : Cp0) (p : PAddr) → linked c p .status ≡ c .status
-unfolding linked set
-linked-status c p = refl
-
-linked-entryhi : (c : Cp0) (p : PAddr) → linked c p .entryhi ≡ c .entryhi
-unfolding linked set
-linked-entryhi c p = refl
-
 -- a calm turn that ends in User mode leaves Status and EntryHi
 record Stays (c c′ : Cp0) : Type 0 where
   pub status : c′ .status ≡ c .status
@@ -135,8 +99,7 @@ calm-stays pc slot c (turn.HiLo hi lo) hilo u = record { status = ended-status f
 calm-stays pc slot c (turn.Link p) link u =
     record { status = ended-status false (linked c p) ∙ linked-status c p; entryhi = ended-entryhi false (linked c p) ∙ linked-entryhi c p }
 calm-stays pc slot c (turn.Enter e) enter u =
-    let s = ended-status false (entered c pc slot e) ∙ entered-status c pc slot e in
-    let f : user (ended false (entered c pc slot e) .status) ≡ false = rw s (exl-not-user (c .status)) in
+    let f : user (ended false (entered c pc slot e) .status) ≡ false = rw (ended-status false (entered c pc slot e)) (entered-not-user c pc slot e) in
     let z : _≡_ {A = ℕ} 0 1 = cc in
     absurd (omega arith)
 calm-stays pc slot c turn.Stay stay u = record { status = refl; entryhi = refl }

@@ -1,47 +1,36 @@
+-- The four tests stand in the definition's order.
 use Rattle.card.specs.Run.{refusalBy}
 use borrow.Author.Tests.{le-leb, lt-leb}
-use mathlib.Core.Path.{_≡_, refl, sym, ap, _∙_}
+use mathlib.Core.Path.{sym, _∙_}
 use borrow.Author.Needs.{needs}
 use Rattle.card.proofs.calls.refusal.Statement.{statement}
 use Rattle.card.proofs.calls.refusal.Tie as tie
-use Rattle.card.proofs.calls.refusal.Reads as reads
-use Rattle.card.proofs.calls.refusal.Lts as lts
-use Rattle.card.proofs.calls.eights.Reads as eights-reads
-use Rattle.card.proofs.range.in_range.Reads as in-range-reads
 
--- src/calls.rt:34:8
 eights-requires : tie.Need-eights-requires
 eights-requires c κs = search needs
 
--- src/calls.rt:35:12
 eights-requires-2 : tie.Need-eights-requires-2
 eights-requires-2 c κs = search needs
 
--- src/calls.rt:37:20
 in-range-requires : tie.Need-in-range-requires
 in-range-requires c κs = search needs
 
--- src/calls.rt:38:21
 returns : tie.Need-returns
 unfolding refusalBy
 returns c = simp (sym (c .before .before .before .before .before .before .eights .ensures) ∙ c .before .before .before .before .before .if1 .taken, sym (c .before .before .before .before .eights2 .ensures) ∙ c .before .before .before .if2 .taken, le-leb _ _ (c .before .before .if3 .taken), sym (c .before .in-range .ensures) ∙ c .if4 .taken)
 
--- src/calls.rt:40:17
 returns-2 : tie.Need-returns-2
 unfolding refusalBy
 returns-2 c = simp (sym (c .before .before .before .before .before .before .eights .ensures) ∙ c .before .before .before .before .before .if1 .taken, sym (c .before .before .before .before .eights2 .ensures) ∙ c .before .before .before .if2 .taken, le-leb _ _ (c .before .before .if3 .taken), sym (c .before .in-range .ensures) ∙ c .if4 .left)
 
--- src/calls.rt:42:13
 returns-3 : tie.Need-returns-3
 unfolding refusalBy
 returns-3 c = simp (sym (c .before .before .before .before .eights .ensures) ∙ c .before .before .before .if1 .taken, sym (c .before .before .eights2 .ensures) ∙ c .before .if2 .taken, lt-leb _ _ (c .if3 .left))
 
--- src/calls.rt:44:9
 returns-4 : tie.Need-returns-4
 unfolding refusalBy
 returns-4 c = simp (sym (c .before .before .before .eights .ensures) ∙ c .before .before .if1 .taken, sym (c .before .eights2 .ensures) ∙ c .if2 .left)
 
--- src/calls.rt:23:1
 returns-5 : tie.Need-returns-5
 unfolding refusalBy
 returns-5 c = simp (sym (c .before .eights .ensures) ∙ c .if1 .left)

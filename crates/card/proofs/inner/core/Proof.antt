@@ -3,44 +3,28 @@ use Rattle.card.proofs.Laws.{core-did}
 use borrow.Author.Needs.{needs}
 use Rattle.card.proofs.inner.core.Statement.{statement}
 use Rattle.card.proofs.inner.core.Tie as tie
-use Rattle.card.proofs.inner.core.Reads as reads
-use Rattle.card.proofs.inner.core.Lts as lts
-use Rattle.card.proofs.inner.put_reg.Reads as put-reg-reads
-use Rattle.effect.proofs.cp0_after.Reads as cp0-after-reads
-use Rattle.effect.proofs.cpu_after.Reads as cpu-after-reads
-use Rattle.effect.proofs.effect_of.Reads as effect-of-reads
-use Rattle.memory.proofs.put_bytes.Reads as put-bytes-reads
-use Rattle.tlb.proofs.put_slot.Reads as put-slot-reads
 
--- src/inner.rt:31:9
 effect-of-requires : tie.Need-effect-of-requires
 effect-of-requires c κs = search needs
 
--- src/inner.rt:35:5
 put-reg-requires : tie.Need-put-reg-requires
 put-reg-requires c κs = search needs
 
--- src/inner.rt:36:5
 put-slot-requires : tie.Need-put-slot-requires
 put-slot-requires c κs = search needs
 
--- src/inner.rt:37:5
 put-bytes-requires : tie.Need-put-bytes-requires
 put-bytes-requires c κs = search needs
 
--- src/inner.rt:38:9
 cpu-after-requires : tie.Need-cpu-after-requires
 cpu-after-requires c κs = search needs
 
--- src/inner.rt:39:9
 cp0-after-requires : tie.Need-cp0-after-requires
 cp0-after-requires c κs = search needs
 
--- src/inner.rt:20:1
 same-length : tie.Need-same-length
 same-length c = search needs
 
--- src/inner.rt:20:1
 returns : tie.Need-returns
 returns c =
     core-did _ _ _ _ _ _ _ _ (c .before .before .before .before .before .before .before .before .before .before .effect-of .ensures) _ _ _ _ _

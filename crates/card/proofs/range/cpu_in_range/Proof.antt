@@ -1,15 +1,12 @@
+-- Each test of the code is one of the definition's.
 use Rattle.card.specs.Machine.{cpuInRange}
 use Rattle.card.proofs.range.cpu_in_range.Statement.{statement}
 use Rattle.card.proofs.range.cpu_in_range.Tie as tie
-use Rattle.card.proofs.range.cpu_in_range.Reads as reads
-use Rattle.card.proofs.range.cpu_in_range.Lts as lts
 
--- src/range.rt:232:9
 returns : tie.Need-returns
 unfolding cpuInRange
 returns c = simp (c .if1 .taken)
 
--- src/range.rt:228:1
 returns-2 : tie.Need-returns-2
 unfolding cpuInRange
 returns-2 c = simp (c .before .if1 .left)

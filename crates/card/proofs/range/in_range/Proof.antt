@@ -1,47 +1,35 @@
+-- r0, then each part of the machine, in the definition's order.
 use Rattle.card.specs.Machine.{inRange}
 use borrow.Author.Tests.{eq-eqb, ne-eqb}
-use mathlib.Core.Path.{_≡_, refl, sym, ap, _∙_}
+use mathlib.Core.Path.{sym, _∙_}
 use borrow.Author.Needs.{needs}
 use Rattle.card.proofs.range.in_range.Statement.{statement}
 use Rattle.card.proofs.range.in_range.Tie as tie
-use Rattle.card.proofs.range.in_range.Reads as reads
-use Rattle.card.proofs.range.in_range.Lts as lts
-use Rattle.card.proofs.range.cpu_in_range.Reads as cpu-in-range-reads
-use Rattle.cp0.proofs.cp0_in_range.Reads as cp0-in-range-reads
-use Rattle.tlb.proofs.tlb_in_range.Reads as tlb-in-range-reads
 
--- src/range.rt:241:8
 element-copy-out-if1 : tie.Need-element-copy-out-if1
 element-copy-out-if1 c = search needs
 
--- src/range.rt:242:9
 returns : tie.Need-returns
 unfolding inRange
 returns c = simp (ne-eqb _ _ (c .if1 .taken))
 
--- src/range.rt:244:8
 cpu-in-range-requires : tie.Need-cpu-in-range-requires
 cpu-in-range-requires c κs = search needs
 
--- src/range.rt:245:12
 cp0-in-range-requires : tie.Need-cp0-in-range-requires
 cp0-in-range-requires c κs = search needs
 
--- src/range.rt:246:13
 tlb-in-range-requires : tie.Need-tlb-in-range-requires
 tlb-in-range-requires c κs = search needs
 
--- src/range.rt:246:13
 returns-2 : tie.Need-returns-2
 unfolding inRange
 returns-2 c = simp (eq-eqb _ _ (c .before .before .before .before .before .if1 .left), sym (c .before .before .before .before .cpu-in-range .ensures) ∙ c .before .before .before .if2 .taken, sym (c .before .before .cp0-in-range .ensures) ∙ c .before .if3 .taken, c .tlb-in-range .ensures)
 
--- src/range.rt:248:9
 returns-3 : tie.Need-returns-3
 unfolding inRange
 returns-3 c = simp (eq-eqb _ _ (c .before .before .before .before .if1 .left), sym (c .before .before .before .cpu-in-range .ensures) ∙ c .before .before .if2 .taken, sym (c .before .cp0-in-range .ensures) ∙ c .if3 .left)
 
--- src/range.rt:238:1
 returns-4 : tie.Need-returns-4
 unfolding inRange
 returns-4 c = simp (eq-eqb _ _ (c .before .before .if1 .left), sym (c .before .cpu-in-range .ensures) ∙ c .if2 .left)

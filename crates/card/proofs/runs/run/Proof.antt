@@ -1,5 +1,5 @@
 -- `run` meets its contract: the steps done and those left are the whole run.
-use Prim.Native.Nat.{ℕ, _-_, _+_, _≤_}
+use Prim.Native.Nat.{_-_, _≤_}
 use mathlib.Core.Path.{_≡_, refl, sym, ap, _∙_}
 use lib.ListN.{length}
 use borrow.Author.Needs.{needs}
@@ -8,10 +8,6 @@ use Rattle.card.specs.Run.{Whole, plus, steps, ran}
 use Rattle.card.proofs.Laws.{refused, accepted, begins, goes-on, ends-here, spent}
 use Rattle.card.proofs.runs.run.Statement.{statement}
 use Rattle.card.proofs.runs.run.Tie as tie
-use Rattle.card.proofs.runs.run.Reads as reads
-use Rattle.card.proofs.runs.run.Lts as lts
-use Rattle.card.proofs.calls.refusal.Reads as refusal-reads
-use Rattle.card.proofs.inner.core.Reads as core-reads
 
 abbrev Inv-loop : tie.InvT-loop
 Inv-loop ram₀ rom lines budget regs₀ tlb₀ c₀ z₀ no' i₀ ram regs tlb c z i =
@@ -20,50 +16,39 @@ Inv-loop ram₀ rom lines budget regs₀ tlb₀ c₀ z₀ no' i₀ ram regs tlb 
 abbrev μ-loop : tie.MeasureT-loop
 μ-loop ram₀ rom lines budget regs₀ tlb₀ c₀ z₀ no' i₀ ram regs tlb c z i = budget - i
 
--- src/runs.rt:48:9
 refusal-requires : tie.Need-refusal-requires Inv-loop μ-loop
 refusal-requires c κs = search needs
 
--- src/runs.rt:50:9
 returns : tie.Need-returns Inv-loop μ-loop
 returns c = let e = refused _ _ _ _ _ _ (c .before .refusal .ensures) (c .if1 .taken) in (ap ran e, ap (λ (w : Whole). w .ram) e)
 
--- src/runs.rt:57:5
 loop-holds : tie.Need-loop-holds Inv-loop μ-loop
 loop-holds c = (search needs, refl, begins _ _ _ _ _)
 
--- src/runs.rt:58:13
 core-requires : tie.Need-core-requires Inv-loop μ-loop
 core-requires c κs = search needs
 
--- src/runs.rt:68:13
 same-length : tie.Need-same-length Inv-loop μ-loop
 same-length c = search needs
 
--- src/runs.rt:68:13
 returns-2 : tie.Need-returns-2 Inv-loop μ-loop
 returns-2 c =
     let e = ends-here _ _ _ _ _ _ _ _ _ _ _ (c .before .before .before .before .before .before .before .before .before .before .loop-test .taken) (c .before .before .before .before .before .before .before .before .before .before .before .loop .inv .2) (c .before .before .before .before .before .before .core .ensures) (c .if2 .taken) in
     let a = accepted _ _ _ _ _ _ (c .before .before .before .before .before .before .before .before .before .before .before .before .before .refusal .ensures) (c .before .before .before .before .before .before .before .before .before .before .before .before .if1 .left) in
     (ap ran (sym e ∙ a), ap (λ (w : Whole). w .ram) (sym e ∙ a))
 
--- src/runs.rt:74:13
 add-i : tie.Need-add-i Inv-loop μ-loop
 add-i c = search (needs, c .before .before .before .before .before .before .before .before .before .before .before .before .before .before .before .before .before .before .before .before .before .before .fits .budget)
 
--- src/runs.rt:57:5
 loop-less : tie.Need-loop-less Inv-loop μ-loop
 loop-less c = search needs
 
--- src/runs.rt:57:5
 loop-again : tie.Need-loop-again Inv-loop μ-loop
 loop-again c = (search needs, search needs, goes-on _ _ _ _ _ _ _ _ _ _ _ (c .before .before .before .before .before .before .before .before .before .before .loop-test .taken) (c .before .before .before .before .before .before .before .before .before .before .before .loop .inv .2) (c .before .before .before .before .before .before .core .ensures) (c .if2 .left))
 
--- src/runs.rt:41:1
 same-length-2 : tie.Need-same-length-2 Inv-loop μ-loop
 same-length-2 c = search needs
 
--- src/runs.rt:41:1
 returns-3 : tie.Need-returns-3 Inv-loop μ-loop
 returns-3 c =
     let e = spent _ _ _ _ _ _ _ (c .before .loop .inv .0) (c .loop-test .left) (c .before .loop .inv .2) in

@@ -1,32 +1,23 @@
 -- `step` meets its contract: a refusal, or one step of the run with budget 1.
-use mathlib.Core.Path.{_≡_, refl, sym, ap, _∙_}
+use mathlib.Core.Path.{ap, _∙_}
 use Rattle.card.specs.Run.{Whole, stepped}
 use Rattle.card.proofs.Laws.{refused, accepted, one-step}
 use borrow.Author.Needs.{needs}
 use Rattle.card.proofs.runs.step.Statement.{statement}
 use Rattle.card.proofs.runs.step.Tie as tie
-use Rattle.card.proofs.runs.step.Reads as reads
-use Rattle.card.proofs.runs.step.Lts as lts
-use Rattle.card.proofs.calls.refusal.Reads as refusal-reads
-use Rattle.card.proofs.inner.core.Reads as core-reads
 
--- src/runs.rt:18:9
 refusal-requires : tie.Need-refusal-requires
 refusal-requires c κs = search needs
 
--- src/runs.rt:20:9
 returns : tie.Need-returns
 returns c = let e = refused _ _ 1 _ _ _ (c .before .refusal .ensures) (c .if1 .taken) in (ap stepped e, ap (λ (w : Whole). w .ram) e)
 
--- src/runs.rt:25:9
 core-requires : tie.Need-core-requires
 core-requires c κs = search needs
 
--- src/runs.rt:11:1
 same-length : tie.Need-same-length
 same-length c = search needs
 
--- src/runs.rt:11:1
 returns-2 : tie.Need-returns-2
 returns-2 c =
     let d = one-step _ _ _ _ _ _ _ _ (c .before .before .before .before .core .ensures) in

@@ -1,65 +1,47 @@
+-- By where the bytes were found.
 use Rattle.effect.specs.Access.{got}
 use borrow.Author.Needs.{needs}
 use Rattle.effect.proofs.access.got.Statement.{statement}
 use Rattle.effect.proofs.access.got.Tie as tie
-use Rattle.effect.proofs.access.got.Reads as reads
-use Rattle.effect.proofs.access.got.Lts as lts
-use Rattle.effect.proofs.access.linking.Reads as linking-reads
-use Rattle.effect.proofs.build.counted.Reads as counted-reads
-use Rattle.effect.proofs.build.raised.Reads as raised-reads
-use Rattle.execute.proofs.finish.Reads as finish-reads
 
--- src/access.rt:46:20
 enum-known-x : tie.Need-enum-known-x
 enum-known-x c = search needs
 
--- src/access.rt:47:13
 linking-requires : tie.Need-linking-requires
 linking-requires c κs = search needs
 
--- src/access.rt:49:13
 finish-requires : tie.Need-finish-requires
 finish-requires c κs = search needs
 
--- src/access.rt:46:26
 counted-requires : tie.Need-counted-requires
 counted-requires c κs = search needs
 
--- src/access.rt:53:20
 enum-known-x-2 : tie.Need-enum-known-x-2
 enum-known-x-2 c = search needs
 
--- src/access.rt:54:13
 linking-requires-2 : tie.Need-linking-requires-2
 linking-requires-2 c κs = search needs
 
--- src/access.rt:56:13
 finish-requires-2 : tie.Need-finish-requires-2
 finish-requires-2 c κs = search needs
 
--- src/access.rt:53:26
 counted-requires-2 : tie.Need-counted-requires-2
 counted-requires-2 c κs = search needs
 
--- src/access.rt:60:34
 enum-told : tie.Need-enum-told
 enum-told c = search needs
 
--- src/access.rt:60:27
 raised-requires : tie.Need-raised-requires
 raised-requires c κs = search needs
 
--- src/access.rt:42:1
 returns : tie.Need-returns
 unfolding got
 returns c = simp (c .before .before .before .before .x .given .1, c .before .before .linking .ensures, c .before .finish .ensures, c .counted .ensures)
 
--- src/access.rt:42:1
 returns-2 : tie.Need-returns-2
 unfolding got
 returns-2 c = simp (c .before .before .before .before .x2 .given .1, c .before .before .linking2 .ensures, c .before .finish2 .ensures, c .counted2 .ensures)
 
--- src/access.rt:42:1
 returns-3 : tie.Need-returns-3
 unfolding got
 returns-3 c = simp (c .before .enum-told .given .1, c .raised .ensures)

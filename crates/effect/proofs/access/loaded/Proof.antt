@@ -1,96 +1,71 @@
+-- By where the address leads.
 use Rattle.effect.specs.Access.{loaded}
 use borrow.Author.Needs.{needs}
 use Rattle.effect.proofs.access.loaded.Statement.{statement}
 use Rattle.effect.proofs.access.loaded.Tie as tie
-use Rattle.effect.proofs.access.loaded.Reads as reads
-use Rattle.effect.proofs.access.loaded.Lts as lts
-use Rattle.effect.proofs.access.got.Reads as got-reads
-use Rattle.effect.proofs.build.raised.Reads as raised-reads
-use Rattle.effect.proofs.build.stopped.Reads as stopped-reads
-use Rattle.memory.proofs.read.Reads as read-reads
 
--- src/access.rt:77:23
 enum-known-x : tie.Need-enum-known-x
 enum-known-x c = search needs
 
--- src/access.rt:77:53
 read-requires : tie.Need-read-requires
 read-requires c κs = search needs
 
--- src/access.rt:77:32
 got-requires : tie.Need-got-requires
 got-requires c κs = search needs
 
--- src/access.rt:78:25
 enum-known-x-2 : tie.Need-enum-known-x-2
 enum-known-x-2 c = search needs
 
--- src/access.rt:78:52
 read-requires-2 : tie.Need-read-requires-2
 read-requires-2 c κs = search needs
 
--- src/access.rt:78:31
 got-requires-2 : tie.Need-got-requires-2
 got-requires-2 c κs = search needs
 
--- src/access.rt:79:37
 enum-told : tie.Need-enum-told
 enum-told c = search needs
 
--- src/access.rt:79:30
 raised-requires : tie.Need-raised-requires
 raised-requires c κs = search needs
 
--- src/access.rt:83:33
 enum-told-2 : tie.Need-enum-told-2
 enum-told-2 c = search needs
 
--- src/access.rt:83:26
 raised-requires-2 : tie.Need-raised-requires-2
 raised-requires-2 c κs = search needs
 
--- src/access.rt:87:26
 enum-told-3 : tie.Need-enum-told-3
 enum-told-3 c = search needs
 
--- src/access.rt:87:26
 stopped-requires : tie.Need-stopped-requires
 stopped-requires c κs = search needs
 
--- src/access.rt:88:39
 enum-told-4 : tie.Need-enum-told-4
 enum-told-4 c = search needs
 
--- src/access.rt:88:32
 raised-requires-3 : tie.Need-raised-requires-3
 raised-requires-3 c κs = search needs
 
--- src/access.rt:65:1
 returns : tie.Need-returns
 unfolding loaded
 returns c = simp (c .before .before .before .x .given .1, c .before .read .ensures, c .got .ensures)
 
--- src/access.rt:65:1
 returns-2 : tie.Need-returns-2
 unfolding loaded
 returns-2 c = simp (c .before .before .before .x2 .given .1, c .before .read2 .ensures, c .got2 .ensures)
 
--- src/access.rt:65:1
 returns-3 : tie.Need-returns-3
 unfolding loaded
 returns-3 c = simp (c .before .enum-told .given .1, c .raised .ensures)
 
--- src/access.rt:65:1
 returns-4 : tie.Need-returns-4
 unfolding loaded
 returns-4 c = simp (c .before .enum-told2 .given .1, c .raised2 .ensures)
 
--- src/access.rt:65:1
 returns-5 : tie.Need-returns-5
 unfolding loaded
 returns-5 c = simp (c .before .enum-told3 .given .1, c .stopped .ensures)
 
--- src/access.rt:65:1
 returns-6 : tie.Need-returns-6
 unfolding loaded
 returns-6 c = simp (c .before .enum-told4 .given .1, c .raised3 .ensures)

@@ -1,105 +1,78 @@
+-- By where the address leads, and by D of a mapped page.
 use Rattle.effect.specs.Access.{saved}
 use borrow.Author.Needs.{needs}
 use Rattle.effect.proofs.access.saved.Statement.{statement}
 use Rattle.effect.proofs.access.saved.Tie as tie
-use Rattle.effect.proofs.access.saved.Reads as reads
-use Rattle.effect.proofs.access.saved.Lts as lts
-use Rattle.effect.proofs.access.sent.Reads as sent-reads
-use Rattle.effect.proofs.build.raised.Reads as raised-reads
-use Rattle.effect.proofs.build.stopped.Reads as stopped-reads
-use Rattle.memory.proofs.read.Reads as read-reads
 
--- src/access.rt:161:23
 enum-known-x : tie.Need-enum-known-x
 enum-known-x c = search needs
 
--- src/access.rt:163:54
 read-requires : tie.Need-read-requires
 read-requires c κs = search needs
 
--- src/access.rt:163:17
 sent-requires : tie.Need-sent-requires
 sent-requires c κs = search needs
 
--- src/access.rt:163:17
 returns : tie.Need-returns
 unfolding saved
 returns c = simp (c .before .before .before .before .x .given .1, c .before .before .if1 .taken, c .before .read .ensures, c .sent .ensures)
 
--- src/access.rt:165:13
 raised-requires : tie.Need-raised-requires
 raised-requires c κs = search needs
 
--- src/access.rt:167:25
 enum-known-x-2 : tie.Need-enum-known-x-2
 enum-known-x-2 c = search needs
 
--- src/access.rt:167:61
 read-requires-2 : tie.Need-read-requires-2
 read-requires-2 c κs = search needs
 
--- src/access.rt:167:31
 sent-requires-2 : tie.Need-sent-requires-2
 sent-requires-2 c κs = search needs
 
--- src/access.rt:168:37
 enum-told : tie.Need-enum-told
 enum-told c = search needs
 
--- src/access.rt:168:30
 raised-requires-2 : tie.Need-raised-requires-2
 raised-requires-2 c κs = search needs
 
--- src/access.rt:172:33
 enum-told-2 : tie.Need-enum-told-2
 enum-told-2 c = search needs
 
--- src/access.rt:172:26
 raised-requires-3 : tie.Need-raised-requires-3
 raised-requires-3 c κs = search needs
 
--- src/access.rt:176:26
 enum-told-3 : tie.Need-enum-told-3
 enum-told-3 c = search needs
 
--- src/access.rt:176:26
 stopped-requires : tie.Need-stopped-requires
 stopped-requires c κs = search needs
 
--- src/access.rt:177:39
 enum-told-4 : tie.Need-enum-told-4
 enum-told-4 c = search needs
 
--- src/access.rt:177:32
 raised-requires-4 : tie.Need-raised-requires-4
 raised-requires-4 c κs = search needs
 
--- src/access.rt:148:1
 returns-2 : tie.Need-returns-2
 unfolding saved
 returns-2 c = simp (c .before .before .before .x .given .1, c .before .if1 .left, c .raised .ensures)
 
--- src/access.rt:148:1
 returns-3 : tie.Need-returns-3
 unfolding saved
 returns-3 c = simp (c .before .before .before .x2 .given .1, c .before .read2 .ensures, c .sent2 .ensures)
 
--- src/access.rt:148:1
 returns-4 : tie.Need-returns-4
 unfolding saved
 returns-4 c = simp (c .before .enum-told .given .1, c .raised2 .ensures)
 
--- src/access.rt:148:1
 returns-5 : tie.Need-returns-5
 unfolding saved
 returns-5 c = simp (c .before .enum-told2 .given .1, c .raised3 .ensures)
 
--- src/access.rt:148:1
 returns-6 : tie.Need-returns-6
 unfolding saved
 returns-6 c = simp (c .before .enum-told3 .given .1, c .stopped .ensures)
 
--- src/access.rt:148:1
 returns-7 : tie.Need-returns-7
 unfolding saved
 returns-7 c = simp (c .before .enum-told4 .given .1, c .raised4 .ensures)

@@ -1,52 +1,38 @@
+-- By where the bytes are.
 use Rattle.effect.specs.Access.{sent}
 use borrow.Author.Needs.{needs}
 use Rattle.effect.proofs.access.sent.Statement.{statement}
 use Rattle.effect.proofs.access.sent.Tie as tie
-use Rattle.effect.proofs.access.sent.Reads as reads
-use Rattle.effect.proofs.access.sent.Lts as lts
-use Rattle.effect.proofs.access.sending.Reads as sending-reads
-use Rattle.effect.proofs.build.raised.Reads as raised-reads
-use Rattle.execute.proofs.goes_out.Reads as goes-out-reads
 
--- src/access.rt:141:49
 enum-told : tie.Need-enum-told
 enum-told c = search needs
 
--- src/access.rt:141:49
 goes-out-requires : tie.Need-goes-out-requires
 goes-out-requires c κs = search needs
 
--- src/access.rt:141:26
 sending-requires : tie.Need-sending-requires
 sending-requires c κs = search needs
 
--- src/access.rt:142:33
 enum-told-2 : tie.Need-enum-told-2
 enum-told-2 c = search needs
 
--- src/access.rt:142:26
 raised-requires : tie.Need-raised-requires
 raised-requires c κs = search needs
 
--- src/access.rt:143:34
 enum-told-3 : tie.Need-enum-told-3
 enum-told-3 c = search needs
 
--- src/access.rt:143:27
 raised-requires-2 : tie.Need-raised-requires-2
 raised-requires-2 c κs = search needs
 
--- src/access.rt:137:1
 returns : tie.Need-returns
 unfolding sent
 returns c = simp (c .before .before .enum-told .given .1, c .before .goes-out .ensures, c .sending .ensures)
 
--- src/access.rt:137:1
 returns-2 : tie.Need-returns-2
 unfolding sent
 returns-2 c = simp (c .before .enum-told2 .given .1, c .raised .ensures)
 
--- src/access.rt:137:1
 returns-3 : tie.Need-returns-3
 unfolding sent
 returns-3 c = simp (c .before .enum-told3 .given .1, c .raised2 .ensures)

@@ -1,11 +1,9 @@
+-- The code puts together what the definition does.
 use Rattle.effect.specs.After.{arrived}
-use mathlib.Core.Path.{_≡_, refl, sym, ap, _∙_}
+use mathlib.Core.Path.{refl}
 use Rattle.effect.proofs.after.arrived.Statement.{statement}
 use Rattle.effect.proofs.after.arrived.Tie as tie
-use Rattle.effect.proofs.after.arrived.Reads as reads
-use Rattle.effect.proofs.after.arrived.Lts as lts
 
--- src/after.rt:33:1
 returns : tie.Need-returns
 unfolding arrived
 returns c = refl

@@ -1,34 +1,25 @@
+-- By what the probe found.
 use Rattle.effect.specs.Step.{fromProbe}
 use borrow.Author.Needs.{needs}
 use Rattle.effect.proofs.asked.from_probe.Statement.{statement}
 use Rattle.effect.proofs.asked.from_probe.Tie as tie
-use Rattle.effect.proofs.asked.from_probe.Reads as reads
-use Rattle.effect.proofs.asked.from_probe.Lts as lts
-use Rattle.effect.proofs.build.stopped.Reads as stopped-reads
-use Rattle.effect.proofs.build.turned.Reads as turned-reads
 
--- src/asked.rt:70:22
 enum-known-x : tie.Need-enum-known-x
 enum-known-x c = search needs
 
--- src/asked.rt:70:28
 turned-requires : tie.Need-turned-requires
 turned-requires c κs = search needs
 
--- src/asked.rt:71:26
 enum-told : tie.Need-enum-told
 enum-told c = search needs
 
--- src/asked.rt:71:26
 stopped-requires : tie.Need-stopped-requires
 stopped-requires c κs = search needs
 
--- src/asked.rt:66:1
 returns : tie.Need-returns
 unfolding fromProbe
 returns c = simp (c .before .before .x .given .1, c .turned .ensures)
 
--- src/asked.rt:66:1
 returns-2 : tie.Need-returns-2
 unfolding fromProbe
 returns-2 c = simp (c .before .enum-told .given .1, c .stopped .ensures)

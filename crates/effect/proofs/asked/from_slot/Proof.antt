@@ -1,33 +1,25 @@
+-- By whether the slot exists.
 use Rattle.effect.specs.Step.{fromSlot}
 use borrow.Author.Needs.{needs}
 use Rattle.effect.proofs.asked.from_slot.Statement.{statement}
 use Rattle.effect.proofs.asked.from_slot.Tie as tie
-use Rattle.effect.proofs.asked.from_slot.Reads as reads
-use Rattle.effect.proofs.asked.from_slot.Lts as lts
-use Rattle.effect.proofs.build.turned.Reads as turned-reads
 
--- src/asked.rt:60:22
 enum-known-x : tie.Need-enum-known-x
 enum-known-x c = search needs
 
--- src/asked.rt:60:28
 turned-requires : tie.Need-turned-requires
 turned-requires c κs = search needs
 
--- src/asked.rt:61:37
 enum-told : tie.Need-enum-told
 enum-told c = search needs
 
--- src/asked.rt:61:30
 turned-requires-2 : tie.Need-turned-requires-2
 turned-requires-2 c κs = search needs
 
--- src/asked.rt:56:1
 returns : tie.Need-returns
 unfolding fromSlot
 returns c = simp (c .before .before .x .given .1, c .turned .ensures)
 
--- src/asked.rt:56:1
 returns-2 : tie.Need-returns-2
 unfolding fromSlot
 returns-2 c = simp (c .before .enum-told .given .1, c .turned2 .ensures)

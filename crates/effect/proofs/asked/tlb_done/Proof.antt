@@ -1,92 +1,66 @@
+-- By the TLB operation.
 use Rattle.effect.specs.Step.{tlbDone}
 use borrow.Author.Needs.{needs}
 use Rattle.effect.proofs.asked.tlb_done.Statement.{statement}
 use Rattle.effect.proofs.asked.tlb_done.Tie as tie
-use Rattle.effect.proofs.asked.tlb_done.Reads as reads
-use Rattle.effect.proofs.asked.tlb_done.Lts as lts
-use Rattle.effect.proofs.asked.from_probe.Reads as from-probe-reads
-use Rattle.effect.proofs.asked.from_slot.Reads as from-slot-reads
-use Rattle.effect.proofs.asked.moved.Reads as moved-reads
-use Rattle.effect.proofs.build.counted.Reads as counted-reads
-use Rattle.tlb.proofs.tlbp.Reads as tlbp-reads
-use Rattle.tlb.proofs.read_slot.Reads as read-slot-reads
 
--- src/asked.rt:80:55
 enum-told : tie.Need-enum-told
 enum-told c = search needs
 
--- src/asked.rt:80:54
 cast-read-slot : tie.Need-cast-read-slot
 cast-read-slot c = search needs
 
--- src/asked.rt:80:34
 read-slot-requires : tie.Need-read-slot-requires
 read-slot-requires c κs = search needs
 
--- src/asked.rt:80:24
 from-slot-requires : tie.Need-from-slot-requires
 from-slot-requires c κs = search needs
 
--- src/asked.rt:83:25
 enum-told-2 : tie.Need-enum-told-2
 enum-told-2 c = search needs
 
--- src/asked.rt:83:24
 cast-t11 : tie.Need-cast-t11
 cast-t11 c = search needs
 
--- src/asked.rt:84:24
 moved-requires : tie.Need-moved-requires
 moved-requires c κs = search needs
 
--- src/asked.rt:86:13
 counted-requires : tie.Need-counted-requires
 counted-requires c κs = search needs
 
--- src/asked.rt:90:24
 enum-told-3 : tie.Need-enum-told-3
 enum-told-3 c = search needs
 
--- src/asked.rt:90:24
 cast-t15 : tie.Need-cast-t15
 cast-t15 c = search needs
 
--- src/asked.rt:91:24
 moved-requires-2 : tie.Need-moved-requires-2
 moved-requires-2 c κs = search needs
 
--- src/asked.rt:93:13
 counted-requires-2 : tie.Need-counted-requires-2
 counted-requires-2 c κs = search needs
 
--- src/asked.rt:95:35
 enum-told-4 : tie.Need-enum-told-4
 enum-told-4 c = search needs
 
--- src/asked.rt:95:35
 tlbp-requires : tie.Need-tlbp-requires
 tlbp-requires c κs = search needs
 
--- src/asked.rt:95:24
 from-probe-requires : tie.Need-from-probe-requires
 from-probe-requires c κs = search needs
 
--- src/asked.rt:76:1
 returns : tie.Need-returns
 unfolding tlbDone
 returns c = simp (c .before .before .before .enum-told .given .1, c .before .read-slot .ensures, c .from-slot .ensures)
 
--- src/asked.rt:76:1
 returns-2 : tie.Need-returns-2
 unfolding tlbDone
 returns-2 c = simp (c .before .before .before .enum-told2 .given .1, c .before .moved .ensures, c .counted .ensures)
 
--- src/asked.rt:76:1
 returns-3 : tie.Need-returns-3
 unfolding tlbDone
 returns-3 c = simp (c .before .before .before .enum-told3 .given .1, c .before .moved2 .ensures, c .counted2 .ensures)
 
--- src/asked.rt:76:1
 returns-4 : tie.Need-returns-4
 unfolding tlbDone
 returns-4 c = simp (c .before .before .enum-told4 .given .1, c .before .tlbp .ensures, c .from-probe .ensures)

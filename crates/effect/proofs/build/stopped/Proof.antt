@@ -1,11 +1,9 @@
+-- The code puts together what the definition does.
 use Rattle.effect.specs.Effect.{stopped}
-use mathlib.Core.Path.{_≡_, refl, sym, ap, _∙_}
+use mathlib.Core.Path.{refl}
 use Rattle.effect.proofs.build.stopped.Statement.{statement}
 use Rattle.effect.proofs.build.stopped.Tie as tie
-use Rattle.effect.proofs.build.stopped.Reads as reads
-use Rattle.effect.proofs.build.stopped.Lts as lts
 
--- src/build.rt:46:1
 returns : tie.Need-returns
 unfolding stopped
 returns c = refl

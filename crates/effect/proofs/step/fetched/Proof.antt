@@ -1,96 +1,71 @@
+-- By where PC leads.
 use Rattle.effect.specs.Step.{fetched}
 use borrow.Author.Needs.{needs}
 use Rattle.effect.proofs.step.fetched.Statement.{statement}
 use Rattle.effect.proofs.step.fetched.Tie as tie
-use Rattle.effect.proofs.step.fetched.Reads as reads
-use Rattle.effect.proofs.step.fetched.Lts as lts
-use Rattle.effect.proofs.build.raised.Reads as raised-reads
-use Rattle.effect.proofs.build.stopped.Reads as stopped-reads
-use Rattle.effect.proofs.step.begun.Reads as begun-reads
-use Rattle.memory.proofs.read.Reads as read-reads
 
--- src/step.rt:129:23
 enum-known-x : tie.Need-enum-known-x
 enum-known-x c = search needs
 
--- src/step.rt:138:13
 read-requires : tie.Need-read-requires
 read-requires c κs = search needs
 
--- src/step.rt:129:32
 begun-requires : tie.Need-begun-requires
 begun-requires c κs = search needs
 
--- src/step.rt:140:25
 enum-known-x-2 : tie.Need-enum-known-x-2
 enum-known-x-2 c = search needs
 
--- src/step.rt:149:13
 read-requires-2 : tie.Need-read-requires-2
 read-requires-2 c κs = search needs
 
--- src/step.rt:140:31
 begun-requires-2 : tie.Need-begun-requires-2
 begun-requires-2 c κs = search needs
 
--- src/step.rt:152:18
 enum-told : tie.Need-enum-told
 enum-told c = search needs
 
--- src/step.rt:151:30
 raised-requires : tie.Need-raised-requires
 raised-requires c κs = search needs
 
--- src/step.rt:156:18
 enum-told-2 : tie.Need-enum-told-2
 enum-told-2 c = search needs
 
--- src/step.rt:155:26
 raised-requires-2 : tie.Need-raised-requires-2
 raised-requires-2 c κs = search needs
 
--- src/step.rt:159:26
 enum-told-3 : tie.Need-enum-told-3
 enum-told-3 c = search needs
 
--- src/step.rt:159:26
 stopped-requires : tie.Need-stopped-requires
 stopped-requires c κs = search needs
 
--- src/step.rt:160:55
 enum-told-4 : tie.Need-enum-told-4
 enum-told-4 c = search needs
 
--- src/step.rt:160:32
 raised-requires-3 : tie.Need-raised-requires-3
 raised-requires-3 c κs = search needs
 
--- src/step.rt:116:1
 returns : tie.Need-returns
 unfolding fetched
 returns c = simp (c .before .before .before .x .given .1, c .before .read .ensures, c .begun .ensures)
 
--- src/step.rt:116:1
 returns-2 : tie.Need-returns-2
 unfolding fetched
 returns-2 c = simp (c .before .before .before .x2 .given .1, c .before .read2 .ensures, c .begun2 .ensures)
 
--- src/step.rt:116:1
 returns-3 : tie.Need-returns-3
 unfolding fetched
 returns-3 c = simp (c .before .enum-told .given .1, c .raised .ensures)
 
--- src/step.rt:116:1
 returns-4 : tie.Need-returns-4
 unfolding fetched
 returns-4 c = simp (c .before .enum-told2 .given .1, c .raised2 .ensures)
 
--- src/step.rt:116:1
 returns-5 : tie.Need-returns-5
 unfolding fetched
 returns-5 c = simp (c .before .enum-told3 .given .1, c .stopped .ensures)
 
--- src/step.rt:116:1
 returns-6 : tie.Need-returns-6
 unfolding fetched
 returns-6 c = simp (c .before .enum-told4 .given .1, c .raised3 .ensures)

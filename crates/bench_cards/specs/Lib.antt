@@ -1,0 +1,2 @@
+-- The bench cards of document 01.
+pub mod Cards

@@ -1,0 +1,1 @@
+// No code: the twelve bench cards, proved of the definitions.

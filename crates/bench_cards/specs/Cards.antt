@@ -7,7 +7,6 @@ use Rattle.memory.specs.declared.PAddr.{PAddr}
 use Rattle.memory.specs.declared.Eight.{Eight}
 use Rattle.memory.specs.declared.Eight.the-variants.{Ram}
 use Rattle.memory.specs.Stores.{putBytes}
-use Rattle.tlb.specs.declared.Mode.{Mode}
 use Rattle.tlb.specs.declared.Mode.the-variants.{User}
 use Rattle.tlb.specs.declared.SlotWrite.the-variants.{Put}
 use Rattle.tlb.specs.declared.Where.the-variants.{Mapped, Invalid}
@@ -24,7 +23,6 @@ use Rattle.decode.specs.declared.MultiplyOp.the-variants.{DMULTU, DIV}
 use Rattle.decode.specs.declared.ShiftOp.the-variants.{SRA}
 use Rattle.decode.specs.declared.LoadOp.the-variants.{LB, LBU, LWL}
 use Rattle.decode.specs.declared.StoreOp.the-variants.{SC}
-use Rattle.execute.specs.declared.Act.{Act}
 use Rattle.execute.specs.declared.Act.the-variants.{Write, HiLo, Raise}
 use Rattle.execute.specs.Arithmetic.{arithmetic}
 use Rattle.execute.specs.Multiply.{multiply}

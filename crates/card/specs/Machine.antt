@@ -13,6 +13,7 @@ use Rattle.effect.specs.declared.Cpu.{Cpu}
 use Rattle.effect.specs.After.{cpuOf}
 use Rattle.card.specs.declared.Machine.{Machine}
 
+-- a machine, field by field
 abbrev pub machine : Cpu → Cp0 → List ℕ → List ℕ → Machine
 machine c z r t = record { cpu = c; cp0 = z; regs = r; tlb = t }
 

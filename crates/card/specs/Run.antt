@@ -15,13 +15,15 @@ use Rattle.card.specs.Step.{Out, stepOf}
 abbrev pub eights : ℕ → ℕ → ℕ → Bool
 eights least most n = both (eqb (n % 8) 0) (both (leb least n) (leb n most))
 
--- RAM's length (N2), ROM's (N3), the interrupt lines (N4)
+-- RAM's length (N2)
 abbrev pub ramFits : ℕ → Bool
 ramFits n = eights 8 16777216 n
 
+-- ROM's length (N3)
 abbrev pub romFits : ℕ → Bool
 romFits n = eights 0 4194304 n
 
+-- the interrupt lines (N4)
 abbrev pub linesFit : ℕ → Bool
 linesFit lines = leb lines 31
 
@@ -40,6 +42,7 @@ pub record Whole : Type 0 where
   pub steps : ℕ
   pub stop : ℕ
 
+-- the same, field by field
 abbrev pub whole : Machine → List ℕ → ℕ → ℕ → Whole
 whole m s k e = record { machine = m; ram = s; steps = k; stop = e }
 

@@ -26,6 +26,7 @@ pub record Out : Type 0 where
   pub ram : List ℕ
   pub stop : ℕ
 
+-- the same, field by field
 abbrev pub out : Machine → List ℕ → ℕ → Out
 out m s n = record { machine = m; ram = s; stop = n }
 

@@ -13,6 +13,7 @@ use Rattle.effect.specs.declared.Cpu.{Cpu}
 use Rattle.effect.specs.declared.Turn.{Turn}
 use Rattle.effect.specs.declared.Turn.the-variants.{Next, Branch, Skip, HiLo, Link, Enter, Move, Read, Probed, Eret, Stay}
 
+-- a Cpu, field by field
 abbrev pub cpuOf : ℕ → Bool → ℕ → ℕ → ℕ → Bool → Cpu
 cpuOf pc slot target hi lo link = record { pc = pc; slot = slot; target = target; hi = hi; lo = lo; link = link }
 
@@ -32,6 +33,7 @@ pending cpu to = cpuOf (further (cpu .pc) 4) true to (cpu .hi) (cpu .lo) (cpu .l
 unfoldable pub arrived : Cpu → ℕ → Bool → Cpu
 arrived cpu pc link = cpuOf pc false 0 (cpu .hi) (cpu .lo) link
 
+-- how each turn leaves Cpu; a stop leaves it as it was (N17)
 unfoldable pub cpuAfter : Cpu → Cp0 → Turn → Cpu
 cpuAfter cpu cp0 Next = onward cpu (cpu .hi) (cpu .lo) (cpu .link)
 cpuAfter cpu cp0 (Branch to) = pending cpu to

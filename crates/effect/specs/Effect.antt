@@ -9,6 +9,7 @@ use Rattle.effect.specs.declared.Turn.{Turn}
 use Rattle.effect.specs.declared.Turn.the-variants.{Next, Enter, Stay}
 use Rattle.effect.specs.declared.Effect.{Effect}
 
+-- an effect, field by field
 abbrev pub effects : Turn → ℕ → ℕ → SlotWrite → Store → ℕ → Effect
 effects t r v s w n = record { turn = t; reg = r; value = v; slot = s; store = w; stop = n }
 

@@ -57,6 +57,7 @@ fn pending(cpu: Cpu, to: u64) -> Cpu
     }
 }
 
+// How each turn leaves PC, the pending slot, HI, LO and the link bit.
 pub fn cpu_after(cpu: Cpu, cp0: Cp0, t: Turn) -> Cpu
     ensures { λ r. ⌜ r ≡ Rule.cpuAfter cpu cp0 t ⌝ }
 {
@@ -78,6 +79,7 @@ pub fn cpu_after(cpu: Cpu, cp0: Cp0, t: Turn) -> Cpu
     }
 }
 
+// How each turn leaves CP0; a counted step ends with Count, Compare and Random.
 pub fn cp0_after(pc: u64, slot: bool, cp0: Cp0, t: Turn) -> Cp0
     ensures { λ r. ⌜ r ≡ Rule.cp0After pc slot cp0 t ⌝ }
 {

@@ -27,6 +27,7 @@ use tlb::SlotWrite;
 use tlb::VAddr;
 use tlb::Where;
 
+// A 32-bit register as a 64-bit number.
 fn wide(x: u32) -> u64
     ensures { λ r. ⌜ r ≡ x ⌝ }
 {

@@ -1,0 +1,52 @@
+-- How far a step comes, stage by stage: what is known of its fetch and its word says which stage its effect is that of.
+use Prim.Native.Nat.{ℕ}
+use mathlib.Core.Path.{_≡_, refl, sym, _∙_, ap}
+use mathlib.Core.List.{List}
+use lib.ListN.{getD}
+use borrow.Author.Tests.{eq-eqb}
+use Rattle.memory.specs.declared.PAddr.{PAddr}
+use Rattle.memory.specs.declared.Eight.{Eight}
+use Rattle.memory.specs.Memory.{read}
+use Rattle.memory.specs.Loads.{lwu}
+use Rattle.tlb.specs.declared.Where.{Where}
+use Rattle.tlb.specs.Translate.{vaddr}
+use Rattle.decode.specs.Fields.{rt}
+use Rattle.execute.specs.declared.Executed.{Executed}
+use Rattle.effect.specs.declared.Effect.{Effect}
+use Rattle.effect.specs.Step.{executed, readied, decoded, begun, fetched, effectOf}
+use Rattle.card.specs.declared.Machine.{Machine}
+use Rattle.demands.specs.StepStops.{goes, Fetches, LeadsTo, Holds, Brings, readiness, Executes}
+use Rattle.demands.specs.StepStops.LeadsTo.{mapped, unmapped}
+use Rattle.demands.specs.StepStops.Holds.{ram, rom}
+
+module _ (m : Machine) (s o : List ℕ) (lines : ℕ) where
+  -- the effect of the step
+  abbrev pub effect : Effect
+  effect = effectOf (m .cpu) (m .cp0) (m .regs) (m .tlb) (read s o) lines
+
+  pub at-fetch : Fetches m lines → effect ≡ fetched (m .cpu) (m .cp0) (m .regs) (m .tlb) (read s o) lines (goes m 4 (vaddr (m .cpu .pc)))
+  unfolding effectOf
+  at-fetch f = rw (eq-eqb _ _ (f .r0-zero), f .no-interrupt)
+
+  led : {x : Where} {p : PAddr} → LeadsTo x p → fetched (m .cpu) (m .cp0) (m .regs) (m .tlb) (read s o) lines x ≡ begun (m .cpu) (m .cp0) (m .regs) (m .tlb) (read s o) lines p (read s o p)
+  unfolding fetched
+  led mapped = refl
+  led unmapped = refl
+
+  held : (p : PAddr) {x : Eight} {n : ℕ} → Holds x n → begun (m .cpu) (m .cp0) (m .regs) (m .tlb) (read s o) lines p x ≡ decoded (m .cpu) (m .cp0) (m .regs) (m .tlb) (read s o) lines (lwu n p)
+  unfolding begun
+  held p ram = refl
+  held p rom = refl
+
+  pub at-word : (w : ℕ) → Brings m s o lines w → effect ≡ readied (m .cpu) (m .cp0) (m .regs) (m .tlb) (read s o) lines w (readiness m w)
+  unfolding decoded
+  at-word w b =
+      at-fetch (b .fetches) ∙ led (b .leads-to) ∙ held (b .at) (b .holds)
+      ∙ ap (decoded (m .cpu) (m .cp0) (m .regs) (m .tlb) (read s o) lines) (sym (b .word))
+
+  pub at-executed : (x : Executed) (e : Executes m s o lines x) → effect ≡ executed (m .cpu) (m .cp0) (m .tlb) (read s o) lines (getD (m .regs) (rt (e .word)) 0) x
+  unfolding readied
+  at-executed x e =
+      at-word (e .word) (e .brings)
+      ∙ ap (readied (m .cpu) (m .cp0) (m .regs) (m .tlb) (read s o) lines (e .word)) (e .may)
+      ∙ ap (executed (m .cpu) (m .cp0) (m .tlb) (read s o) lines (getD (m .regs) (rt (e .word)) 0)) (e .comes)

@@ -1,0 +1,39 @@
+-- Accepted machines stay accepted: no step and no run leads out of the range of refusal 4 (N21 to N25), so stop 19 is never given.
+use Prim.Native.Nat.{ℕ, _+_}
+use mathlib.Core.Path.{_≡_}
+use mathlib.Core.Bool.{true}
+use mathlib.Core.List.{List}
+use lib.Dec.{eqb}
+use lib.ListN.{length}
+use Rattle.promise.specs.Pick.{pick}
+use Rattle.card.specs.declared.Machine.{Machine}
+use Rattle.card.specs.Machine.{inRange}
+use Rattle.card.specs.Step.{stepOf}
+use Rattle.card.specs.Run.{plus, runOf}
+use Rattle.demands.specs.Call.{Call, run}
+
+-- a machine in its range; 32 registers and 48 slots of four numbers are what every machine of the card has
+pub record Good (m : Machine) : Type 0 where
+  pub registers : length (m .regs) ≡ 32
+  pub slots : length (m .tlb) ≡ 192
+  pub in-range : inRange m ≡ true
+
+-- a step of a machine in its range leaves one, and RAM as long as it was
+abbrev pub StepStays : Type 0
+StepStays =
+    (m : Machine) (ram rom : List ℕ) (lines : ℕ) → Good m
+    → Good (stepOf m ram rom lines .machine) × (length (stepOf m ram rom lines .ram) ≡ length ram)
+
+-- so does a run
+abbrev pub RunStays : Type 0
+RunStays = (c : Call) → Good (c .machine) → Good (run c .machine) × (length (run c .ram) ≡ length (c .ram))
+
+-- an accepted run never gives 19, nor does a refused one
+abbrev pub Never19 : Type 0
+Never19 = (c : Call) → length (c .machine .regs) ≡ 32 → length (c .machine .tlb) ≡ 192 → run c .stop ≡ 19 → ⊥
+
+-- a run of a + b steps is a run of a steps and then, if that did not stop, a run of b steps from where it ended
+abbrev pub RunInParts : Type 0
+RunInParts =
+    (rom : List ℕ) (lines a b : ℕ) (m : Machine) (ram : List ℕ) → length (m .regs) ≡ 32 → length (m .tlb) ≡ 192
+    → runOf rom lines (a + b) m ram ≡ pick (eqb (runOf rom lines a m ram .stop) 0) (plus (runOf rom lines a m ram .steps) (runOf rom lines b (runOf rom lines a m ram .machine) (runOf rom lines a m ram .ram))) (runOf rom lines a m ram)

@@ -1,0 +1,2 @@
+-- What the program prints.
+pub mod Printed

@@ -1,0 +1,3 @@
+-- What the program prints, and which arguments it takes.
+pub mod Arguments
+pub mod Printed

@@ -59,10 +59,6 @@ use Rattle.decode.proofs.cop0.cop0.Kinds as cop0-kinds
 use Rattle.decode.proofs.cop0.cop0.Reads as cop0-reads
 use Rattle.decode.proofs.instructions.instruction.Kinds as instruction-kinds
 use Rattle.decode.proofs.instructions.instruction.Reads as instruction-reads
-use Rattle.decode.proofs.instructions.special_word.Kinds as special-word-kinds
-use Rattle.decode.proofs.instructions.special_word.Reads as special-word-reads
-use Rattle.decode.proofs.instructions.regimm_word.Kinds as regimm-word-kinds
-use Rattle.decode.proofs.instructions.regimm_word.Reads as regimm-word-reads
 use Rattle.decode.proofs.doubleword.double_load.Kinds as double-load-kinds
 use Rattle.decode.proofs.doubleword.double_load.Reads as double-load-reads
 use Rattle.decode.proofs.doubleword.double_store.Kinds as double-store-kinds
@@ -201,12 +197,6 @@ cop0-once κs a p z₁ z₂ ws₁ ws₂ h₁ h₂ = (same h₁ h₂, refl)
 
 pub instruction-once : Unique instruction-kinds.ps instruction-kinds.r instruction-reads.Pre instruction-reads.Post
 instruction-once κs a p z₁ z₂ ws₁ ws₂ h₁ h₂ = (same h₁ h₂, refl)
-
-pub special-word-once : Unique special-word-kinds.ps special-word-kinds.r special-word-reads.Pre special-word-reads.Post
-special-word-once κs a p z₁ z₂ ws₁ ws₂ h₁ h₂ = (same h₁ h₂, refl)
-
-pub regimm-word-once : Unique regimm-word-kinds.ps regimm-word-kinds.r regimm-word-reads.Pre regimm-word-reads.Post
-regimm-word-once κs a p z₁ z₂ ws₁ ws₂ h₁ h₂ = (same h₁ h₂, refl)
 
 pub double-load-once : Unique double-load-kinds.ps double-load-kinds.r double-load-reads.Pre double-load-reads.Post
 double-load-once κs a p z₁ z₂ ws₁ ws₂ h₁ h₂ = (same h₁ h₂, refl)

@@ -61,15 +61,19 @@ instruction (trap op) w = Is (Trap op (rs w) (rt w))
 instruction (trapI op) w = Is (TrapImmediate op (rs w) (immediate w))
 instruction (special op) w = Is (Special op)
 
--- what a word is by its major opcode's place: SPECIAL by its function, REGIMM by its rt field, any other by its own entry (S14)
-unfoldable pub byMajor : Maps → Major → ℕ → Decoded
-byMajor m SPECIAL w = instruction (getD (m .specials) (funct w) reserved) w
-byMajor m REGIMM w = instruction (getD (m .regimms) (rt w) reserved) w
-byMajor m (own e) w = instruction e w
+-- the entry of a word by its major opcode's place: SPECIAL's by the function, REGIMM's by the rt field, any other its own (S14)
+unfoldable pub byMajor : Maps → Major → ℕ → Entry
+byMajor m SPECIAL w = getD (m .specials) (funct w) reserved
+byMajor m REGIMM w = getD (m .regimms) (rt w) reserved
+byMajor m (own e) w = e
+
+-- the entry of a word in the maps
+unfoldable pub entryIn : Maps → ℕ → Entry
+entryIn m w = byMajor m (getD (m .majors) (opcode w) (own reserved)) w
 
 -- what a word is on a processor of those maps (S14)
 unfoldable pub decodeBy : Maps → ℕ → Decoded
-decodeBy m w = byMajor m (getD (m .majors) (opcode w) (own reserved)) w
+decodeBy m w = instruction (entryIn m w) w
 
 -- what a word is on the MIPS III card (S14)
 abbrev pub decode : ℕ → Decoded

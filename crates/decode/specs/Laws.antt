@@ -6,12 +6,11 @@ use lib.Pow.{pow-pos}
 use native.Mathlib.Omega.{arith}
 use lib.ListN.{length, getD}
 use Rattle.promise.specs.Bits.{bits}
-use Rattle.decode.specs.declared.Decoded.{Decoded}
 use Rattle.decode.specs.Fields.{opcode, rs, rt, rd, sa, funct, immediate, target}
-use Rattle.decode.specs.Maps.{Entry, Major, majors, specials, regimms}
+use Rattle.decode.specs.Maps.{Entry, Major, majors, specials, regimms, mips3}
 use Rattle.decode.specs.Maps.Major.{SPECIAL, REGIMM, own}
 use Rattle.decode.specs.Maps.Entry.{reserved}
-use Rattle.decode.specs.Decode.{decode, decodeBy, byMajor, instruction}
+use Rattle.decode.specs.Decode.{entryIn, byMajor}
 
 -- a field of some bits is below two to their number
 pub fits : (w low many : ℕ) → bits w low many < 2 ^ many
@@ -40,15 +39,15 @@ pub regimms-all : length regimms ≡ 2 ^ 5
 unfolding regimms
 regimms-all = refl
 
--- a word has one decoding, that of its entry: of the SPECIAL map, of the REGIMM map, or of the major map itself
-pub special-word : (w : ℕ) → getD majors (opcode w) (own reserved) ≡ SPECIAL → decode w ≡ instruction (getD specials (funct w) reserved) w
-unfolding decodeBy byMajor
+-- a word has one entry: of the SPECIAL map, of the REGIMM map, or of the major map itself
+pub special-word : (w : ℕ) → getD majors (opcode w) (own reserved) ≡ SPECIAL → entryIn mips3 w ≡ getD specials (funct w) reserved
+unfolding entryIn byMajor
 special-word w h = rw h
 
-pub regimm-word : (w : ℕ) → getD majors (opcode w) (own reserved) ≡ REGIMM → decode w ≡ instruction (getD regimms (rt w) reserved) w
-unfolding decodeBy byMajor
+pub regimm-word : (w : ℕ) → getD majors (opcode w) (own reserved) ≡ REGIMM → entryIn mips3 w ≡ getD regimms (rt w) reserved
+unfolding entryIn byMajor
 regimm-word w h = rw h
 
-pub other-word : (w : ℕ) (e : Entry) → getD majors (opcode w) (own reserved) ≡ own e → decode w ≡ instruction e w
-unfolding decodeBy byMajor
+pub other-word : (w : ℕ) (e : Entry) → getD majors (opcode w) (own reserved) ≡ own e → entryIn mips3 w ≡ e
+unfolding entryIn byMajor
 other-word w e h = rw h

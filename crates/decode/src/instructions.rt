@@ -1,18 +1,12 @@
-// The instruction of an entry by the entry's number in a table, and the words of the two submaps.
+// The instruction of an entry by the entry's number in a table.
 ghost use mathlib.Core.Path.{_≡_};
 ghost use Rattle.decode.specs.Decode as D;
-ghost use Rattle.decode.specs.Fields as F;
-ghost use Rattle.decode.specs.Maps.{Entry as E, specials, regimms};
 ghost use Rattle.decode.specs.Numbers as N;
-ghost use lib.ListN.{getD};
 use super::Decoded;
 use super::Instr;
 use super::SpecialOp;
 use super::classes;
 use super::cop0;
-use super::fields;
-use super::maps::REGIMM;
-use super::maps::SPECIAL;
 
 // The instruction of entry n of class 0.
 fn other(n: u8, w: u32) -> Decoded
@@ -53,18 +47,4 @@ pub fn instruction(number: u8, w: u32) -> Decoded
         14 => classes::trap(n, w),
         _ => classes::trap_immediate(n, w),
     }
-}
-
-// A SPECIAL word, by its function.
-pub fn special_word(w: u32) -> Decoded
-    ensures { λ r. ⌜ r ≡ D.instruction (getD specials (F.funct w) E.reserved) w ⌝ }
-{
-    instruction(SPECIAL[fields::funct(w)], w)
-}
-
-// A REGIMM word, by its rt field.
-pub fn regimm_word(w: u32) -> Decoded
-    ensures { λ r. ⌜ r ≡ D.instruction (getD regimms (F.rt w) E.reserved) w ⌝ }
-{
-    instruction(REGIMM[fields::rt(w)], w)
 }

@@ -1,6 +1,8 @@
 // Decoding: from the 32 bits of a word to an instruction by its manual name, and what it needs to be usable.
 ghost use mathlib.Core.Path.{_≡_};
 ghost use Rattle.decode.specs.Decode as D;
+ghost use Rattle.decode.specs.Maps.{mips3};
+ghost use Rattle.decode.specs.Numbers as N;
 
 pub mod fields; // the fields of a word
 mod maps; // the three maps as tables of numbers
@@ -12,6 +14,8 @@ mod doubleword; // the doubleword instructions
 pub mod usability; // whether the step may go on with it
 
 use maps::MAJOR;
+use maps::REGIMM;
+use maps::SPECIAL;
 
 pub enum LoadOp {
     LB,
@@ -298,16 +302,23 @@ pub enum Ready {
     InSlot,
 }
 
+// The number of a word's entry: SPECIAL's by the function, REGIMM's by the rt field, any other its own.
+fn entry_number(w: u32) -> u8
+    ensures { λ r. ⌜ N.entryOf r ≡ D.entryIn mips3 w ⌝ }
+{
+    let number = MAJOR[fields::opcode(w)];
+    if number == 0x0d {
+        return SPECIAL[fields::funct(w)];
+    }
+    if number == 0x0e {
+        return REGIMM[fields::rt(w)];
+    }
+    number
+}
+
 // What a word is.
 pub fn decode(w: u32) -> Decoded
     ensures { λ r. ⌜ r ≡ D.decode w ⌝ }
 {
-    let number = MAJOR[fields::opcode(w)];
-    if number == 0x0d {
-        return instructions::special_word(w);
-    }
-    if number == 0x0e {
-        return instructions::regimm_word(w);
-    }
-    instructions::instruction(number, w)
+    instructions::instruction(entry_number(w), w)
 }

@@ -21,12 +21,13 @@ use Rattle.cp0.specs.Moves.{builtStatus}
 use Rattle.cp0.specs.Range.{randomInRange, statusInRange, configInRange, entriesInRange, controlInRange, cp0InRange}
 use Rattle.cp0.specs.Tick.{counted, timed, drawn, ended}
 use Rattle.decode.specs.Maps.{majors, specials, regimms}
-use Rattle.decode.specs.Decode.{byMajor, decodeBy}
+use Rattle.decode.specs.Decode.{byMajor, entryIn, decodeBy}
 use Rattle.decode.specs.Ready.{inPlace, allowed, usable, ready}
 use Rattle.execute.specs.Arithmetic.{arithmetic, arithmeticImmediate}
 use Rattle.execute.specs.Execute.{execute}
 use Rattle.effect.specs.Effect.{wrote}
-use Rattle.effect.specs.Step.{asked, executed, readied, decoded, begun, fetched, effectOf}
+use Rattle.effect.specs.Fetch.{wordFound, wordAt}
+use Rattle.effect.specs.Step.{asked, executed, readied, decoded, begun, effectOf}
 use Rattle.effect.specs.After.{cpuOf, onward, cpuAfter, cp0After}
 use Rattle.card.specs.declared.Machine.{Machine}
 use Rattle.card.specs.Machine.{machine, freshSlots, cpuInRange, inRange}
@@ -50,5 +51,5 @@ pub record Ran (w : Whole) (k pc : ℕ) : Type 0 where
 
 -- after one step, and after both: r8 is 5 and r9 is 10
 pub worked : Ran (run (program 1)) 1 0xffffffff80000004 × Ran (run (program 2)) 2 0xffffffff80000008 × (getD (run (program 2) .machine .regs) 8 0 ≡ 5) × (getD (run (program 2) .machine .regs) 9 0 ≡ 10)
-unfolding runOf refusalBy inRange cpuInRange cp0InRange entriesInRange controlInRange randomInRange statusInRange configInRange builtStatus legalMask trailingOnes ones onesIn trailingZeros tlbInRange slotsInRange slotInRange slotAt hiInRange loInRange steps stepOf apply putReg putSlot putBytes atStart cp0.fresh freshSlots effectOf interrupted causeRead fetched translate aligned extended extend register segment upper modeOf user begun read part eightOf decoded readied ready usable allowed inPlace lwu span decodeBy byMajor majors specials regimms executed execute arithmeticImmediate arithmetic sum asked wrote cpuAfter onward cp0After ended counted timed drawn cp0.set
+unfolding runOf refusalBy inRange cpuInRange cp0InRange entriesInRange controlInRange randomInRange statusInRange configInRange builtStatus legalMask trailingOnes ones onesIn trailingZeros tlbInRange slotsInRange slotInRange slotAt hiInRange loInRange steps stepOf apply putReg putSlot putBytes atStart cp0.fresh freshSlots effectOf interrupted causeRead wordAt wordFound translate aligned extended extend register segment upper modeOf user begun read part eightOf decoded readied ready usable allowed inPlace lwu span decodeBy entryIn byMajor majors specials regimms executed execute arithmeticImmediate arithmetic sum asked wrote cpuAfter onward cp0After ended counted timed drawn cp0.set
 worked = (record { stop = refl; steps = refl; pc-left = refl }, record { stop = refl; steps = refl; pc-left = refl }, refl, refl)

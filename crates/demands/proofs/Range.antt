@@ -56,6 +56,8 @@ use Rattle.execute.specs.declared.Executed.the-variants as done
 use Rattle.effect.specs.declared.Cpu.{Cpu}
 use Rattle.effect.specs.declared.Turn.{Turn}
 use Rattle.effect.specs.declared.Turn.the-variants as turn
+use Rattle.effect.specs.declared.Fetched.{Fetched}
+use Rattle.effect.specs.declared.Fetched.the-variants as fetch
 use Rattle.effect.specs.declared.Effect.{Effect}
 use Rattle.effect.specs.Effect.{effects, turned, wrote, raised, stopped}
 use Rattle.effect.specs.Access.{got, loaded, sending, sent, saved}
@@ -203,26 +205,17 @@ module _ (cpu : Cpu) (cp0 : Cp0) (regs tlb : List ℕ) (look : PAddr → Eight) 
   readied-keeps lines w Reserved e = raised-keeps _
   readied-keeps lines w InSlot e = stopped-keeps _
 
-  begun-keeps : (lines : ℕ) (p : PAddr) (x : Eight) → Keeps cp0 (begun cpu cp0 regs tlb look lines p x)
+  begun-keeps : (lines : ℕ) (x : Fetched) → Keeps cp0 (begun cpu cp0 regs tlb look lines x)
   unfolding begun step.decoded
-  begun-keeps lines p (Ram n) = readied-keeps lines _ _ refl
-  begun-keeps lines p (Rom n) = readied-keeps lines _ _ refl
-  begun-keeps lines p Missing = raised-keeps _
-
-  fetched-keeps : (lines : ℕ) (x : Where) → Keeps cp0 (fetched cpu cp0 regs tlb look lines x)
-  unfolding fetched
-  fetched-keeps lines (Mapped p h) = begun-keeps lines p (look p)
-  fetched-keeps lines (Unmapped p) = begun-keeps lines p (look p)
-  fetched-keeps lines (Invalid h) = raised-keeps _
-  fetched-keeps lines Refill = raised-keeps _
-  fetched-keeps lines Double = stopped-keeps _
-  fetched-keeps lines AddressError = raised-keeps _
+  begun-keeps lines (fetch.Word w) = readied-keeps lines w _ refl
+  begun-keeps lines (fetch.Raise e) = raised-keeps e
+  begun-keeps lines fetch.Double = stopped-keeps 16
 
   pub effect-keeps : (lines : ℕ) → Keeps cp0 (effectOf cpu cp0 regs tlb look lines)
   unfolding effectOf
   effect-keeps lines = go (eqb (getD regs 0 0) 0) (interrupted (cp0 .status) (cp0 .cause) lines)
     where
-      go : (a b : Bool) → Keeps cp0 (pick a (pick b (raised Int) (fetched cpu cp0 regs tlb look lines (leads cp0 tlb 4 (vaddr (cpu .pc))))) (stopped 19))
+      go : (a b : Bool) → Keeps cp0 (pick a (pick b (raised Int) (begun cpu cp0 regs tlb look lines (fetched cpu cp0 tlb look))) (stopped 19))
       go true true = raised-keeps _
-      go true false = fetched-keeps lines _
+      go true false = begun-keeps lines _
       go false b = stopped-keeps 19

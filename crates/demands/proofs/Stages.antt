@@ -12,8 +12,10 @@ use Rattle.tlb.specs.declared.Where.{Where}
 use Rattle.tlb.specs.Translate.{vaddr}
 use Rattle.decode.specs.Fields.{rt}
 use Rattle.execute.specs.declared.Executed.{Executed}
+use Rattle.effect.specs.declared.Fetched.{Fetched}
 use Rattle.effect.specs.declared.Effect.{Effect}
-use Rattle.effect.specs.Step.{executed, readied, decoded, begun, fetched, effectOf}
+use Rattle.effect.specs.Fetch.{wordFound, wordAt}
+use Rattle.effect.specs.Step.{executed, readied, decoded, begun, effectOf}
 use Rattle.card.specs.declared.Machine.{Machine}
 use Rattle.demands.specs.StepStops.{goes, Fetches, LeadsTo, Holds, Brings, readiness, Executes}
 use Rattle.demands.specs.StepStops.LeadsTo.{mapped, unmapped}
@@ -24,24 +26,32 @@ module _ (m : Machine) (s o : List ℕ) (lines : ℕ) where
   abbrev pub effect : Effect
   effect = effectOf (m .cpu) (m .cp0) (m .regs) (m .tlb) (read s o) lines
 
-  pub at-fetch : Fetches m lines → effect ≡ fetched (m .cpu) (m .cp0) (m .regs) (m .tlb) (read s o) lines (goes m 4 (vaddr (m .cpu .pc)))
+  -- the stage after the fetch, whatever the fetch came to
+  abbrev pub after : Fetched → Effect
+  after = begun (m .cpu) (m .cp0) (m .regs) (m .tlb) (read s o) lines
+
+  -- what the fetch comes to where PC leads so
+  abbrev pub fetch : Where → Fetched
+  fetch = wordAt (vaddr (m .cpu .pc)) (read s o)
+
+  pub at-fetch : Fetches m lines → effect ≡ after (fetch (goes m 4 (vaddr (m .cpu .pc))))
   unfolding effectOf
   at-fetch f = rw (eq-eqb _ _ (f .r0-zero), f .no-interrupt)
 
-  led : {x : Where} {p : PAddr} → LeadsTo x p → fetched (m .cpu) (m .cp0) (m .regs) (m .tlb) (read s o) lines x ≡ begun (m .cpu) (m .cp0) (m .regs) (m .tlb) (read s o) lines p (read s o p)
-  unfolding fetched
+  led : {x : Where} {p : PAddr} → LeadsTo x p → fetch x ≡ wordFound p (read s o p)
+  unfolding wordAt
   led mapped = refl
   led unmapped = refl
 
-  held : (p : PAddr) {x : Eight} {n : ℕ} → Holds x n → begun (m .cpu) (m .cp0) (m .regs) (m .tlb) (read s o) lines p x ≡ decoded (m .cpu) (m .cp0) (m .regs) (m .tlb) (read s o) lines (lwu n p)
-  unfolding begun
+  held : (p : PAddr) {x : Eight} {n : ℕ} → Holds x n → after (wordFound p x) ≡ decoded (m .cpu) (m .cp0) (m .regs) (m .tlb) (read s o) lines (lwu n p)
+  unfolding wordFound begun
   held p ram = refl
   held p rom = refl
 
   pub at-word : (w : ℕ) → Brings m s o lines w → effect ≡ readied (m .cpu) (m .cp0) (m .regs) (m .tlb) (read s o) lines w (readiness m w)
   unfolding decoded
   at-word w b =
-      at-fetch (b .fetches) ∙ led (b .leads-to) ∙ held (b .at) (b .holds)
+      at-fetch (b .fetches) ∙ ap after (led (b .leads-to)) ∙ held (b .at) (b .holds)
       ∙ ap (decoded (m .cpu) (m .cp0) (m .regs) (m .tlb) (read s o) lines) (sym (b .word))
 
   pub at-executed : (x : Executed) (e : Executes m s o lines x) → effect ≡ executed (m .cpu) (m .cp0) (m .tlb) (read s o) lines (getD (m .regs) (rt (e .word)) 0) x

@@ -12,7 +12,8 @@ use Rattle.decode.specs.declared.Ready.the-variants.{InSlot}
 use Rattle.effect.specs.declared.Effect.{Effect}
 use Rattle.effect.specs.Effect.{stopped}
 use Rattle.effect.specs.Access.{loaded, saved}
-use Rattle.effect.specs.Step.{fromProbe, tlbDone, movedTo, asked, commanded, executed, readied, fetched, effectOf}
+use Rattle.effect.specs.Fetch.{wordAt}
+use Rattle.effect.specs.Step.{fromProbe, tlbDone, movedTo, asked, commanded, executed, readied, begun, effectOf}
 use Rattle.effect.specs.After.{cpuAfter, cp0After}
 use Rattle.card.specs.declared.Machine.{Machine}
 use Rattle.card.specs.Step.{Out, out, putReg, apply, stepOf}
@@ -28,7 +29,7 @@ module _ (m : Machine) (s o : List ℕ) (lines : ℕ) where
   -- ---- from the case to the stop
 
   twice-stops : Twice m s o lines → stages.effect m s o lines ≡ stopped 16
-  unfolding fetched executed asked loaded saved commanded tlbDone fromProbe
+  unfolding wordAt begun executed asked loaded saved commanded tlbDone fromProbe
   twice-stops (at-fetch f e) = stages.at-fetch m s o lines f ∙ rw e
   twice-stops (at-load op reg at x e) = stages.at-executed m s o lines _ x ∙ rw e
   twice-stops (at-store op reg at x e) = stages.at-executed m s o lines _ x ∙ rw e

@@ -45,8 +45,9 @@ use Rattle.execute.specs.LoadStore.{loadAlign, storeAlign}
 use Rattle.effect.specs.declared.Effect.{Effect}
 use Rattle.effect.specs.Effect.{turned, wrote, raised, stopped}
 use Rattle.effect.specs.Access.{got, loaded, sending, sent, saved}
+use Rattle.effect.specs.Fetch.{wordFound, wordAt}
 use Rattle.effect.specs.Step as step
-use Rattle.effect.specs.Step.{fromSlot, fromProbe, tlbDone, movedTo, asked, commanded, executed, readied, begun, fetched, effectOf}
+use Rattle.effect.specs.Step.{fromSlot, fromProbe, tlbDone, movedTo, asked, commanded, executed, readied, begun, effectOf}
 use Rattle.card.specs.declared.Machine.{Machine}
 use Rattle.demands.specs.StepStops.{r0, goes, Fetches, LeadsTo, Holds, Brings, readiness, Executes, Twice, BranchInSlot, MoveNotBuilt}
 use Rattle.demands.specs.StepStops.LeadsTo.{mapped, unmapped}
@@ -171,31 +172,31 @@ module _ (m : Machine) (s o : List ℕ) (lines : ℕ) where
       let i = in-slot _ _ _ (decode w) e in
       in-a-slot (record { word = w; instr = i .instr; brings = b; is = i .is; branch = i .branch; slot = i .slot-pending; usable = i .usable }) refl
 
-  begun-why : (p : PAddr) → ((n : ℕ) → Holds (read s o p) n → Brings m s o lines (lwu n p)) → (x : Eight) → read s o p ≡ x → Why (begun (m .cpu) (m .cp0) (m .regs) (m .tlb) (read s o) lines p x)
-  unfolding begun step.decoded
-  begun-why p b (Ram n) e = readied-why _ (b n (subst (λ (y : Eight). Holds y n) (sym e) ram)) _ refl
-  begun-why p b (Rom n) e = readied-why _ (b n (subst (λ (y : Eight). Holds y n) (sym e) rom)) _ refl
-  begun-why p b Missing e = goes-on (raised-on _)
+  word-why : (p : PAddr) → ((n : ℕ) → Holds (read s o p) n → Brings m s o lines (lwu n p)) → (x : Eight) → read s o p ≡ x → Why (stages.after m s o lines (wordFound p x))
+  unfolding wordFound begun step.decoded
+  word-why p b (Ram n) e = readied-why _ (b n (subst (λ (y : Eight). Holds y n) (sym e) ram)) _ refl
+  word-why p b (Rom n) e = readied-why _ (b n (subst (λ (y : Eight). Holds y n) (sym e) rom)) _ refl
+  word-why p b Missing e = goes-on (raised-on _)
 
   -- a word that the fetch brings
   brought : Fetches m lines → (p : PAddr) → LeadsTo (goes m 4 (vaddr (m .cpu .pc))) p → (n : ℕ) → Holds (read s o p) n → Brings m s o lines (lwu n p)
   brought f p l n h = record { fetches = f; at = p; eight = n; leads-to = l; holds = h; word = refl }
 
-  fetched-why : Fetches m lines → (x : Where) → goes m 4 (vaddr (m .cpu .pc)) ≡ x → Why (fetched (m .cpu) (m .cp0) (m .regs) (m .tlb) (read s o) lines x)
-  unfolding fetched
-  fetched-why f (Mapped p h) e = begun-why p (brought f p (subst (λ (y : Where). LeadsTo y p) (sym e) mapped)) _ refl
-  fetched-why f (Unmapped p) e = begun-why p (brought f p (subst (λ (y : Where). LeadsTo y p) (sym e) unmapped)) _ refl
-  fetched-why f (Invalid h) e = goes-on (raised-on _)
-  fetched-why f Refill e = goes-on (raised-on _)
-  fetched-why f Double e = twice (at-fetch f e) refl
-  fetched-why f AddressError e = goes-on (raised-on _)
+  fetch-why : Fetches m lines → (x : Where) → goes m 4 (vaddr (m .cpu .pc)) ≡ x → Why (stages.after m s o lines (stages.fetch m s o lines x))
+  unfolding wordAt begun
+  fetch-why f (Mapped p h) e = word-why p (brought f p (subst (λ (y : Where). LeadsTo y p) (sym e) mapped)) _ refl
+  fetch-why f (Unmapped p) e = word-why p (brought f p (subst (λ (y : Where). LeadsTo y p) (sym e) unmapped)) _ refl
+  fetch-why f (Invalid h) e = goes-on (raised-on _)
+  fetch-why f Refill e = goes-on (raised-on _)
+  fetch-why f Double e = twice (at-fetch f e) refl
+  fetch-why f AddressError e = goes-on (raised-on _)
 
   pub effect-why : Why (stages.effect m s o lines)
   unfolding effectOf
   effect-why = go (eqb (r0 m) 0) refl (interrupted (m .cp0 .status) (m .cp0 .cause) lines) refl
     where
       go : (a : Bool) → eqb (r0 m) 0 ≡ a → (b : Bool) → interrupted (m .cp0 .status) (m .cp0 .cause) lines ≡ b
-          → Why (pick a (pick b (raised Int) (fetched (m .cpu) (m .cp0) (m .regs) (m .tlb) (read s o) lines (goes m 4 (vaddr (m .cpu .pc))))) (stopped 19))
+          → Why (pick a (pick b (raised Int) (stages.after m s o lines (stages.fetch m s o lines (goes m 4 (vaddr (m .cpu .pc)))))) (stopped 19))
       go true p true q = goes-on (raised-on _)
-      go true p false q = fetched-why (record { r0-zero = eqb-true _ _ p; no-interrupt = q }) _ refl
+      go true p false q = fetch-why (record { r0-zero = eqb-true _ _ p; no-interrupt = q }) _ refl
       go false p b q = not-zero (eqb-false _ _ p) refl

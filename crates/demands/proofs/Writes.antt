@@ -4,7 +4,6 @@ use native.Mathlib.Omega.{arith}
 use mathlib.Core.Path.{_≡_, refl, subst}
 use mathlib.Core.Bool.{Bool, true, false}
 use lib.Dec.{eqb}
-use lib.ListN.{getD}
 use Rattle.promise.specs.Pick.{pick, both}
 use Rattle.promise.specs.Bits.{set?}
 use Rattle.decode.specs.declared.Instr.{Instr}
@@ -12,11 +11,10 @@ use Rattle.decode.specs.declared.Instr.the-variants as instr
 use Rattle.decode.specs.declared.Decoded.{Decoded}
 use Rattle.decode.specs.declared.Decoded.the-variants as decoded
 use Rattle.decode.specs.declared.Ready.the-variants.{Go}
-use Rattle.decode.specs.Fields.{rs, rt, rd, funct}
-use Rattle.decode.specs.Maps.{Entry, Major, Maps, mips3}
-use Rattle.decode.specs.Maps.Major.{SPECIAL, REGIMM, own}
+use Rattle.decode.specs.Fields.{rs, rt, rd}
+use Rattle.decode.specs.Maps.{Entry, mips3}
 use Rattle.decode.specs.Maps.Entry.{reserved, COP0, CP1, CP2, CACHE, load, store, arithmetic, arithmeticI, logic, logicI, shift, shiftV, multiply, hiLo, branch, jump, jumpR, trap, trapI, special}
-use Rattle.decode.specs.Decode.{move, operation, cop0, instruction, byMajor, decodeBy, decode}
+use Rattle.decode.specs.Decode.{move, operation, cop0, instruction, entryIn, decodeBy, decode}
 use Rattle.decode.specs.Doubleword.{isDouble}
 use Rattle.decode.specs.Ready.{isCp0, isBranch, locked, inPlace, allowed, usable, reservedCop0, ready}
 
@@ -104,15 +102,9 @@ instruction-small (trap op) w = is none
 instruction-small (trapI op) w = is none
 instruction-small (special op) w = is none
 
-major-small : (m : Maps) (x : Major) (w : ℕ) → Small (byMajor m x w)
-unfolding byMajor
-major-small m SPECIAL w = instruction-small (getD (m .specials) (funct w) reserved) w
-major-small m REGIMM w = instruction-small (getD (m .regimms) (rt w) reserved) w
-major-small m (own e) w = instruction-small e w
-
 decode-small : (w : ℕ) → Small (decode w)
 unfolding decodeBy
-decode-small w = major-small mips3 _ w
+decode-small w = instruction-small (entryIn mips3 w) w
 
 -- what goes on is what was decoded
 went-on : (u c slot : Bool) (d : Decoded) (i : Instr) → ready u c slot d ≡ Go i → d ≡ decoded.Is i

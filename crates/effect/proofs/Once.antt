@@ -23,6 +23,8 @@ use Rattle.effect.proofs.access.sent.Kinds as sent-kinds
 use Rattle.effect.proofs.access.sent.Reads as sent-reads
 use Rattle.effect.proofs.access.saved.Kinds as saved-kinds
 use Rattle.effect.proofs.access.saved.Reads as saved-reads
+use Rattle.effect.proofs.fetch.word_at.Kinds as word-at-kinds
+use Rattle.effect.proofs.fetch.word_at.Reads as word-at-reads
 use Rattle.effect.proofs.asked.leads.Kinds as leads-kinds
 use Rattle.effect.proofs.asked.leads.Reads as leads-reads
 use Rattle.effect.proofs.asked.asked.Kinds as asked-kinds
@@ -70,6 +72,9 @@ sent-once κs a p z₁ z₂ ws₁ ws₂ h₁ h₂ = (same h₁ h₂, refl)
 
 pub saved-once : Unique saved-kinds.ps saved-kinds.r saved-reads.Pre saved-reads.Post
 saved-once κs a p z₁ z₂ ws₁ ws₂ h₁ h₂ = (same h₁ h₂, refl)
+
+pub word-at-once : Unique word-at-kinds.ps word-at-kinds.r word-at-reads.Pre word-at-reads.Post
+word-at-once κs a p z₁ z₂ ws₁ ws₂ h₁ h₂ = (same h₁ h₂, refl)
 
 pub leads-once : Unique leads-kinds.ps leads-kinds.r leads-reads.Pre leads-reads.Post
 leads-once κs a p z₁ z₂ ws₁ ws₂ h₁ h₂ = (same h₁ h₂, refl)

@@ -1,16 +1,14 @@
 -- One step in document 01's order: interrupt, fetch, decode, execute and what it asks for (S1 to S7).
 use Prim.Native.Nat.{ℕ, _+_, _/_, _%_, _^_}
 use mathlib.Core.List.{List}
-use mathlib.Core.Bool.{Bool, true, false}
+use mathlib.Core.Bool.{Bool}
 use lib.Dec.{eqb}
 use lib.ListN.{getD}
 use Rattle.promise.specs.Pick.{pick}
 use Rattle.word.specs.Word.{extend}
 use Rattle.memory.specs.declared.PAddr.{PAddr}
 use Rattle.memory.specs.declared.Eight.{Eight}
-use Rattle.memory.specs.declared.Eight.the-variants.{Ram, Rom, Missing}
 use Rattle.memory.specs.declared.Store.the-variants.{Nowhere}
-use Rattle.memory.specs.Loads.{lwu}
 use Rattle.tlb.specs.declared.VAddr.{VAddr}
 use Rattle.tlb.specs.declared.Slot.{Slot}
 use Rattle.tlb.specs.declared.SlotWrite.the-variants.{Keep, Put}
@@ -19,13 +17,12 @@ use Rattle.tlb.specs.declared.SlotRead.the-variants as read
 use Rattle.tlb.specs.declared.Probe.{Probe}
 use Rattle.tlb.specs.declared.Probe.the-variants as probed
 use Rattle.tlb.specs.declared.Where.{Where}
-use Rattle.tlb.specs.declared.Where.the-variants.{Mapped, Unmapped, Invalid, Refill, Double, AddressError}
 use Rattle.tlb.specs.Segments.{translate}
 use Rattle.tlb.specs.Slot.{asidOf, slot, readSlot}
 use Rattle.tlb.specs.Probe.{probe}
 use Rattle.tlb.specs.Translate.{vaddr}
 use Rattle.cp0.specs.declared.Cp0.{Cp0}
-use Rattle.cp0.specs.declared.Exception.the-variants.{Int, TLBL, AdEL, IBE, RI, CpU}
+use Rattle.cp0.specs.declared.Exception.the-variants.{Int, RI, CpU}
 use Rattle.cp0.specs.declared.Move.{Move}
 use Rattle.cp0.specs.declared.Move.the-variants.{Built, NotBuilt}
 use Rattle.cp0.specs.Status.{CU0, modeOf, user, interrupted}
@@ -48,9 +45,12 @@ use Rattle.execute.specs.LoadStore.{loadAlign, storeAlign}
 use Rattle.execute.specs.Execute.{execute}
 use Rattle.effect.specs.declared.Cpu.{Cpu}
 use Rattle.effect.specs.declared.Turn.the-variants as turn
+use Rattle.effect.specs.declared.Fetched.{Fetched}
+use Rattle.effect.specs.declared.Fetched.the-variants as fetch
 use Rattle.effect.specs.declared.Effect.{Effect}
 use Rattle.effect.specs.Effect.{effects, turned, wrote, raised, stopped}
 use Rattle.effect.specs.Access.{loaded, saved}
+use Rattle.effect.specs.Fetch.{wordAt}
 
 -- where an address leads, by the mode and the ASID that CP0 holds
 abbrev pub leads : Cp0 → List ℕ → ℕ → VAddr → Where
@@ -123,24 +123,19 @@ unfoldable pub decoded : Cpu → Cp0 → List ℕ → List ℕ → (PAddr → Ei
 decoded cpu cp0 regs tlb look lines w =
     readied cpu cp0 regs tlb look lines w (ready (user (cp0 .status)) (CU0 (cp0 .status)) (cpu .slot) (decode w))
 
--- the eight bytes that the fetch found, or a bus error
-unfoldable pub begun : Cpu → Cp0 → List ℕ → List ℕ → (PAddr → Eight) → ℕ → PAddr → Eight → Effect
-begun cpu cp0 regs tlb look lines p (Ram n) = decoded cpu cp0 regs tlb look lines (lwu n p)
-begun cpu cp0 regs tlb look lines p (Rom n) = decoded cpu cp0 regs tlb look lines (lwu n p)
-begun cpu cp0 regs tlb look lines p Missing = raised IBE
+-- the fetched word is decoded, or the step is what the fetch came to instead
+unfoldable pub begun : Cpu → Cp0 → List ℕ → List ℕ → (PAddr → Eight) → ℕ → Fetched → Effect
+begun cpu cp0 regs tlb look lines (fetch.Word w) = decoded cpu cp0 regs tlb look lines w
+begun cpu cp0 regs tlb look lines (fetch.Raise e) = raised e
+begun cpu cp0 regs tlb look lines fetch.Double = stopped 16
 
--- the fetch, once PC is translated: address error, refill, stop 16, invalid, bus error (S5)
-unfoldable pub fetched : Cpu → Cp0 → List ℕ → List ℕ → (PAddr → Eight) → ℕ → Where → Effect
-fetched cpu cp0 regs tlb look lines (Mapped p h) = begun cpu cp0 regs tlb look lines p (look p)
-fetched cpu cp0 regs tlb look lines (Unmapped p) = begun cpu cp0 regs tlb look lines p (look p)
-fetched cpu cp0 regs tlb look lines (Invalid h) = raised (TLBL (vaddr (cpu .pc)) false)
-fetched cpu cp0 regs tlb look lines Refill = raised (TLBL (vaddr (cpu .pc)) true)
-fetched cpu cp0 regs tlb look lines Double = stopped 16
-fetched cpu cp0 regs tlb look lines AddressError = raised (AdEL (vaddr (cpu .pc)))
+-- the fetch: PC is translated, and the word there taken (S5)
+abbrev pub fetched : Cpu → Cp0 → List ℕ → (PAddr → Eight) → Fetched
+fetched cpu cp0 tlb look = wordAt (vaddr (cpu .pc)) look (leads cp0 tlb 4 (vaddr (cpu .pc)))
 
 -- a step: stop 19 first of all, then the interrupt, then the fetch (N13, S2)
 unfoldable pub effectOf : Cpu → Cp0 → List ℕ → List ℕ → (PAddr → Eight) → ℕ → Effect
 effectOf cpu cp0 regs tlb look lines =
     pick (eqb (getD regs 0 0) 0)
-    (pick (interrupted (cp0 .status) (cp0 .cause) lines) (raised Int) (fetched cpu cp0 regs tlb look lines (leads cp0 tlb 4 (vaddr (cpu .pc)))))
+    (pick (interrupted (cp0 .status) (cp0 .cause) lines) (raised Int) (begun cpu cp0 regs tlb look lines (fetched cpu cp0 tlb look)))
     (stopped 19)

@@ -3,6 +3,7 @@ mod access;
 mod after;
 mod asked;
 mod build;
+mod fetch;
 mod step;
 
 pub use after::cp0_after;
@@ -37,6 +38,13 @@ pub enum Turn {
     Probed(u64),
     Eret,
     Stay,
+}
+
+// What the fetch comes to: the word at PC, an exception, or a double match.
+pub enum Fetched {
+    Word(u32),
+    Raise(Exception),
+    Double,
 }
 
 // All that a step does: how it goes on, a register (0: none) and its value, a slot, a store, and the stop (0: none).

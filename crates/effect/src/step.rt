@@ -1,22 +1,20 @@
 // One step in order: interrupt, fetch, decode, execute, and what the instruction asks for.
 ghost use mathlib.Core.Path.{_≡_};
 ghost use Rattle.cp0.specs.Status.{CU0};
-ghost use Rattle.memory.specs.Loads.{lwu};
 ghost use Rattle.memory.specs.Memory.{read};
 ghost use Rattle.effect.specs.Step as Rule;
 use crate::Cpu;
 use crate::Effect;
+use crate::Fetched;
 use crate::asked::executed;
 use crate::asked::leads;
 use crate::build::raised;
 use crate::build::stopped;
+use crate::fetch::word_at;
 use cp0::Cp0;
 use cp0::Exception;
 use decode::Ready;
-use memory::Eight;
-use memory::PAddr;
 use tlb::VAddr;
-use tlb::Where;
 
 // A word that may be executed, or what it raises or stops instead.
 fn readied<'a>(
@@ -84,14 +82,7 @@ fn decoded<'a>(
     readied(cpu, cp0, regs, tlb, ram, rom, lines, w, x)
 }
 
-// The word of the eight bytes that an address names.
-fn fetched_word(n: u64, p: PAddr) -> u32
-    ensures { λ r. ⌜ r ≡ lwu n p ⌝ }
-{
-    memory::lwu(n, p) as u32
-}
-
-// The eight bytes that the fetch found, or a bus error.
+// The fetched word is decoded, or the step is what the fetch came to instead.
 fn begun<'a>(
     cpu: Cpu,
     cp0: Cp0,
@@ -100,64 +91,14 @@ fn begun<'a>(
     ram: &'a [u8],
     rom: &'a [u8],
     lines: u8,
-    p: PAddr,
-    x: Eight,
+    x: Fetched,
 ) -> Effect
-    ensures { λ r. ⌜ r ≡ Rule.begun cpu cp0 (now (regs .entry)) (now (tlb .entry)) (read (now (ram .entry)) (now (rom .entry))) lines p x ⌝ }
+    ensures { λ r. ⌜ r ≡ Rule.begun cpu cp0 (now (regs .entry)) (now (tlb .entry)) (read (now (ram .entry)) (now (rom .entry))) lines x ⌝ }
 {
     match x {
-        Eight::Ram(n) => decoded(cpu, cp0, regs, tlb, ram, rom, lines, fetched_word(n, p)),
-        Eight::Rom(n) => decoded(cpu, cp0, regs, tlb, ram, rom, lines, fetched_word(n, p)),
-        Eight::Missing => raised(Exception::IBE),
-    }
-}
-
-// The fetch, once PC is translated.
-fn fetched<'a>(
-    cpu: Cpu,
-    cp0: Cp0,
-    regs: &[u64; 32],
-    tlb: &[u64; 192],
-    ram: &'a [u8],
-    rom: &'a [u8],
-    lines: u8,
-    x: Where,
-) -> Effect
-    ensures { λ r. ⌜ r ≡ Rule.fetched cpu cp0 (now (regs .entry)) (now (tlb .entry)) (read (now (ram .entry)) (now (rom .entry))) lines x ⌝ }
-{
-    match x {
-        Where::Mapped(p, _) => begun(
-            cpu,
-            cp0,
-            regs,
-            tlb,
-            ram,
-            rom,
-            lines,
-            p,
-            memory::read(ram, rom, p),
-        ),
-        Where::Unmapped(p) => begun(
-            cpu,
-            cp0,
-            regs,
-            tlb,
-            ram,
-            rom,
-            lines,
-            p,
-            memory::read(ram, rom, p),
-        ),
-        Where::Invalid(_) => raised(Exception::TLBL {
-            bad: VAddr(cpu.pc),
-            refill: false,
-        }),
-        Where::Refill => raised(Exception::TLBL {
-            bad: VAddr(cpu.pc),
-            refill: true,
-        }),
-        Where::Double => stopped(16),
-        Where::AddressError => raised(Exception::AdEL(VAddr(cpu.pc))),
+        Fetched::Word(w) => decoded(cpu, cp0, regs, tlb, ram, rom, lines, w),
+        Fetched::Raise(e) => raised(e),
+        Fetched::Double => stopped(16),
     }
 }
 
@@ -179,14 +120,7 @@ pub fn effect_of<'a>(
     if cp0::interrupted(cp0.status, cp0.cause, lines) {
         return raised(Exception::Int);
     }
-    fetched(
-        cpu,
-        cp0,
-        regs,
-        tlb,
-        ram,
-        rom,
-        lines,
-        leads(cp0, tlb, 4, VAddr(cpu.pc)),
-    )
+    let pc = VAddr(cpu.pc);
+    let x = word_at(pc, ram, rom, leads(cp0, tlb, 4, pc));
+    begun(cpu, cp0, regs, tlb, ram, rom, lines, x)
 }

@@ -50,9 +50,12 @@ use Rattle.execute.specs.Execute.{execute}
 use Rattle.effect.specs.declared.Cpu.{Cpu}
 use Rattle.effect.specs.declared.Turn.{Turn}
 use Rattle.effect.specs.declared.Turn.the-variants as turn
+use Rattle.effect.specs.declared.Fetched.{Fetched}
+use Rattle.effect.specs.declared.Fetched.the-variants as fetch
 use Rattle.effect.specs.declared.Effect.{Effect}
 use Rattle.effect.specs.Effect.{effects, turned, wrote, raised, stopped}
 use Rattle.effect.specs.Access.{linking, got, loaded, linkBit, ifLinked, sending, sent, saved}
+use Rattle.effect.specs.Fetch.{wordFound, wordAt}
 use Rattle.effect.specs.Step as step
 use Rattle.effect.specs.Step.{leads, asked, executed, readied, begun, fetched, effectOf}
 use Rattle.isolation.specs.Reach.{Reached, ReachedDirty}
@@ -109,26 +112,26 @@ module _ (cpu : Cpu) (cp0 : Cp0) (regs tlb : List ℕ) (u : user (cp0 .status) �
   readied-same lines w Reserved = refl
   readied-same lines w InSlot = refl
 
-  begun-same : (lines : ℕ) (p : PAddr) (x : Eight) → begun cpu cp0 regs tlb r₁ lines p x ≡ begun cpu cp0 regs tlb r₂ lines p x
+  begun-same : (lines : ℕ) (x : Fetched) → begun cpu cp0 regs tlb r₁ lines x ≡ begun cpu cp0 regs tlb r₂ lines x
   unfolding begun step.decoded
-  begun-same lines p (Ram n) = readied-same lines _ _
-  begun-same lines p (Rom n) = readied-same lines _ _
-  begun-same lines p Missing = refl
+  begun-same lines (fetch.Word w) = readied-same lines w _
+  begun-same lines (fetch.Raise e) = refl
+  begun-same lines fetch.Double = refl
 
-  fetched-same : (lines : ℕ) (x : Where) → leads cp0 tlb 4 (vaddr (cpu .pc)) ≡ x → fetched cpu cp0 regs tlb r₁ lines x ≡ fetched cpu cp0 regs tlb r₂ lines x
-  unfolding fetched
-  fetched-same lines (Mapped p h) e = rw (same p (reached 4 (vaddr (cpu .pc)) p h e)) (begun-same lines p (r₂ p))
-  fetched-same lines (Unmapped p) e = no-unmapped 4 (vaddr (cpu .pc)) p e
-  fetched-same lines (Invalid h) e = refl
-  fetched-same lines Refill e = refl
-  fetched-same lines Double e = refl
-  fetched-same lines AddressError e = refl
+  word-same : (x : Where) → leads cp0 tlb 4 (vaddr (cpu .pc)) ≡ x → wordAt (vaddr (cpu .pc)) r₁ x ≡ wordAt (vaddr (cpu .pc)) r₂ x
+  unfolding wordAt
+  word-same (Mapped p h) e = ap (wordFound p) (same p (reached 4 (vaddr (cpu .pc)) p h e))
+  word-same (Unmapped p) e = no-unmapped 4 (vaddr (cpu .pc)) p e
+  word-same (Invalid h) e = refl
+  word-same Refill e = refl
+  word-same Double e = refl
+  word-same AddressError e = refl
 
   pub effect-same : (lines : ℕ) → effectOf cpu cp0 regs tlb r₁ lines ≡ effectOf cpu cp0 regs tlb r₂ lines
   unfolding effectOf
   effect-same lines =
       ap (λ (e : Effect). pick (eqb (getD regs 0 0) 0) (pick (interrupted (cp0 .status) (cp0 .cause) lines) (raised Int) e) (stopped 19))
-      (fetched-same lines _ refl)
+      (ap (begun cpu cp0 regs tlb r₁ lines) (word-same _ refl) ∙ begun-same lines _)
 
 -- ---- a good effect
 
@@ -313,26 +316,17 @@ module _ (cpu : Cpu) (cp0 : Cp0) (regs tlb : List ℕ) (u : user (cp0 .status) �
   unfolding step.decoded
   decoded-good lines w = readied-good lines w _ (rw (← u, ← l) refl)
 
-  begun-good : (lines : ℕ) (p : PAddr) (x : Eight) → Good cp0 tlb (begun cpu cp0 regs tlb look lines p x)
+  begun-good : (lines : ℕ) (x : Fetched) → Good cp0 tlb (begun cpu cp0 regs tlb look lines x)
   unfolding begun
-  begun-good lines p (Ram n) = decoded-good lines _
-  begun-good lines p (Rom n) = decoded-good lines _
-  begun-good lines p Missing = raised-good _
-
-  fetched-good : (lines : ℕ) (x : Where) → Good cp0 tlb (fetched cpu cp0 regs tlb look lines x)
-  unfolding fetched
-  fetched-good lines (Mapped p h) = begun-good lines p (look p)
-  fetched-good lines (Unmapped p) = begun-good lines p (look p)
-  fetched-good lines (Invalid h) = raised-good _
-  fetched-good lines Refill = raised-good _
-  fetched-good lines Double = stopped-good _
-  fetched-good lines AddressError = raised-good _
+  begun-good lines (fetch.Word w) = decoded-good lines w
+  begun-good lines (fetch.Raise e) = raised-good e
+  begun-good lines fetch.Double = stopped-good 16
 
   pub effect-good : (lines : ℕ) → Good cp0 tlb (effectOf cpu cp0 regs tlb look lines)
   unfolding effectOf
   effect-good lines = go (eqb (getD regs 0 0) 0) (interrupted (cp0 .status) (cp0 .cause) lines)
     where
-      go : (a b : Bool) → Good cp0 tlb (pick a (pick b (raised Int) (fetched cpu cp0 regs tlb look lines (leads cp0 tlb 4 (vaddr (cpu .pc))))) (stopped 19))
+      go : (a b : Bool) → Good cp0 tlb (pick a (pick b (raised Int) (begun cpu cp0 regs tlb look lines (fetched cpu cp0 tlb look))) (stopped 19))
       go true true = raised-good _
-      go true false = fetched-good lines _
+      go true false = begun-good lines _
       go false b = stopped-good _

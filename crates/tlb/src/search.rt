@@ -3,6 +3,7 @@ ghost use mathlib.Core.Path.{_≡_};
 ghost use Prim.Native.Nat.{ℕ, _/_, _^_, _<_};
 ghost use Rattle.tlb.specs.Held.{foundOf};
 ghost use Rattle.tlb.specs.Match as M;
+ghost use Rattle.tlb.specs.Translate.{vaddr};
 use super::Found;
 use super::VAddr;
 
@@ -60,16 +61,35 @@ fn found_of(n: usize) -> Found
     Found::Many
 }
 
+// Slot i looked at, after those that gave n.
+fn next(tlb: &[u64; 192], asid: u64, at: u64, i: usize, n: usize) -> usize
+    requires { ⌜ i < 48 ⌝ }
+    ensures { λ r. ⌜ foundOf r ≡ M.seek 1 i (now (tlb .entry)) asid (vaddr at) (foundOf n) ⌝ }
+{
+    more(hits(tlb[i * 4], tlb[i * 4 + 1], asid, at), i, n)
+}
+
+// Four slots from i on, so that the loop has fewer turns.
+fn next_four(tlb: &[u64; 192], asid: u64, at: u64, i: usize, n: usize) -> usize
+    requires { ⌜ i < 45 ⌝ }
+    ensures { λ r. ⌜ foundOf r ≡ M.seek 4 i (now (tlb .entry)) asid (vaddr at) (foundOf n) ⌝ }
+{
+    let first = next(tlb, asid, at, i, n);
+    let second = next(tlb, asid, at, i + 1, first);
+    let third = next(tlb, asid, at, i + 2, second);
+    next(tlb, asid, at, i + 3, third)
+}
+
 // The search of all 48 slots.
 pub fn lookup(tlb: &[u64; 192], asid: u64, v: VAddr) -> Found
     ensures { λ r. ⌜ r ≡ M.lookup (now (tlb .entry)) asid v ⌝ }
 {
     let at = v.0;
     let mut n: usize = 48;
-    let mut i: usize = 0;
-    while i < 48 {
-        n = more(hits(tlb[i * 4], tlb[i * 4 + 1], asid, at), i, n);
-        i = i + 1;
+    let mut turn: usize = 0;
+    while turn < 12 {
+        n = next_four(tlb, asid, at, turn * 4, n);
+        turn = turn + 1;
     }
     found_of(n)
 }

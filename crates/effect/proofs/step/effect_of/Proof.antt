@@ -29,12 +29,15 @@ returns-2 c = simp (eq-eqb _ _ (c .before .before .before .if1 .left), sym (c .b
 leads-requires : tie.Need-leads-requires
 leads-requires c κs = search needs
 
-fetched-requires : tie.Need-fetched-requires
-fetched-requires c κs = search needs
+word-at-requires : tie.Need-word-at-requires
+word-at-requires c κs = search needs
+
+begun-requires : tie.Need-begun-requires
+begun-requires c κs = search needs
 
 returns-3 : tie.Need-returns-3
 unfolding effectOf
-returns-3 c = simp (eq-eqb _ _ (c .before .before .before .before .if1 .left), sym (c .before .before .before .interrupted .ensures) ∙ c .before .before .if2 .left, c .before .leads .ensures, c .fetched .ensures)
+returns-3 c = simp (eq-eqb _ _ (c .before .before .before .before .before .if1 .left), sym (c .before .before .before .before .interrupted .ensures) ∙ c .before .before .before .if2 .left, c .before .before .leads .ensures, c .before .word-at .ensures, c .begun .ensures)
 
 pub effect-of-spec : {M : Type 1} → statement M
 effect-of-spec =
@@ -47,5 +50,6 @@ effect-of-spec =
     raised-requires
     returns-2
     leads-requires
-    fetched-requires
+    word-at-requires
+    begun-requires
     returns-3)

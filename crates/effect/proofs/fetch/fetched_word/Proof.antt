@@ -4,8 +4,8 @@ use native.Mathlib.Omega.{arith}
 use borrow.Author.Needs.{needs}
 use Rattle.memory.specs.declared.PAddr.{PAddr}
 use Rattle.memory.specs.Loads.{span, lwu}
-use Rattle.effect.proofs.step.fetched_word.Statement.{statement}
-use Rattle.effect.proofs.step.fetched_word.Tie as tie
+use Rattle.effect.proofs.fetch.fetched_word.Statement.{statement}
+use Rattle.effect.proofs.fetch.fetched_word.Tie as tie
 
 below : (n : ℕ) (p : PAddr) → lwu n p < 2 ^ 32
 unfolding lwu span

@@ -127,10 +127,10 @@ alike one other =
       rom = record { long = refl; same = λ k r. refl };
     }
 
--- the two entries differ in a byte of RAM
-pub differ : getD (withEntry 1) 4096 0 ≡ 1
+-- the entry is the byte of RAM after the page, so two entries differ there
+pub differ : (secret : ℕ) → getD (withEntry secret) 4096 0 ≡ secret
 unfolding withEntry page
-differ = refl
+differ secret = refl
 
 begins : (secret : ℕ) → UserFor 1 (world secret)
 unfolding steps
@@ -139,6 +139,6 @@ begins secret zero l =
     (ap (λ (x : Whole). x .stop) g, ap (λ (x : Whole). inUser (x .machine)) g ∙ accepted secret .user)
 begins secret (suc k) l = let y : ⊥ = omega arith in absurd y
 
--- and the program that tries to read it runs alike in both: the step raises, and nothing of the entry is learnt
+-- and the program that tries to read it runs alike in both
 pub runs-alike : (one other : ℕ) → SameRun (world one) (world other) 1
 runs-alike one other = isolation (world one) (world other) (accepted one) (accepted other) (alike one other) 1 (begins one)

@@ -3,3 +3,4 @@ pub mod Effects
 pub mod Step
 pub mod Isolation
 pub mod Example
+pub mod Caught

@@ -66,7 +66,7 @@ fn lines_of(word: &[u8]) -> Lines
 }
 
 // The first argument, 0 where there is none; a third is one too many.
-pub fn lines_given() -> Lines {
+pub(crate) fn lines_given() -> Lines {
     let count = os::arg_count();
     if 3 < count {
         return Lines::Wrong;
@@ -84,7 +84,7 @@ pub fn lines_given() -> Lines {
 
 // Reads the file that the second argument names to the start of `rom`, and answers its length; none where there is no
 // argument, and more than `rom` has where the file cannot be read.
-pub fn read_rom(rom: &mut [u8]) -> usize {
+pub(crate) fn read_rom(rom: &mut [u8]) -> usize {
     if os::arg_count() < 3 {
         return 0;
     }

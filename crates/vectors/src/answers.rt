@@ -5,7 +5,7 @@ ghost use lib.ListN.{length};
 ghost use Rattle.io.specs.Counts.{Counts};
 
 // Room for an answer: RAM without a zero doubleword takes 224,151 bytes.
-pub fn buffer() -> [u8; 262144]
+pub(crate) fn buffer() -> [u8; 262144]
     ensures { λ r. ⌜ 262144 ≡ length r ⌝ }
 {
     [0; 262144]
@@ -31,7 +31,7 @@ fn digit(c: u8) -> u8
 }
 
 // The interrupt lines that two digits at the start of a text are.
-pub fn lines_of(text: &[u8]) -> u8 {
+pub(crate) fn lines_of(text: &[u8]) -> u8 {
     if text.len() < 2 {
         return 0;
     }
@@ -60,7 +60,7 @@ fn put_answer(text: &[u8], lines: u8, rom: &[u8], ram: &mut [u8], out: &mut [u8]
 }
 
 // Answers an image under lines and with a boot ROM, and says how long the answer is.
-pub fn answer(text: &[u8], lines: u8, rom: &[u8], out: &mut [u8]) -> usize
+pub(crate) fn answer(text: &[u8], lines: u8, rom: &[u8], out: &mut [u8]) -> usize
     ensures { λ r. ⌜ Counts r (now (out .exit)) ⌝ }
 {
     let mut ram = io::large_buffer();

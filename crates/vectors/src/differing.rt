@@ -22,7 +22,7 @@ fn agree(base: &[u8], answer: &[u8], from: usize, end: usize) -> bool
 }
 
 // Prints the lines of an answer at which it does not agree with the base.
-pub fn print_differing(base: &[u8], answer: &[u8]) {
+pub(crate) fn print_differing(base: &[u8], answer: &[u8]) {
     let mut at = 0;
     while at < answer.len() {
         let end = past_line(answer, at);

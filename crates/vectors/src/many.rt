@@ -9,7 +9,7 @@ pub const SPACE: u8 = 32;
 const LF: u8 = 10;
 
 // The next place of a byte from `from` on, or the text's end where it does not come.
-pub fn next_place(text: &[u8], from: usize, byte: u8) -> usize
+pub(crate) fn next_place(text: &[u8], from: usize, byte: u8) -> usize
     requires { ⌜ from ≤ length (now text) ⌝ }
     ensures { λ r. ⌜ from ≤ r ⌝ }
     ensures { λ r. ⌜ r ≤ length (now (text .entry)) ⌝ }
@@ -25,7 +25,7 @@ pub fn next_place(text: &[u8], from: usize, byte: u8) -> usize
 }
 
 // Where the line that begins at `from` is over, its LF included.
-pub fn past_line(text: &[u8], from: usize) -> usize
+pub(crate) fn past_line(text: &[u8], from: usize) -> usize
     requires { ⌜ from < length (now text) ⌝ }
     ensures { λ r. ⌜ from < r ⌝ }
     ensures { λ r. ⌜ r ≤ length (now (text .entry)) ⌝ }
@@ -38,7 +38,7 @@ pub fn past_line(text: &[u8], from: usize) -> usize
 }
 
 // The place after the next space from `from` on, or the line's end where there is none.
-pub fn next_word(line: &[u8], from: usize) -> usize
+pub(crate) fn next_word(line: &[u8], from: usize) -> usize
     requires { ⌜ from ≤ length (now line) ⌝ }
     ensures { λ r. ⌜ r ≤ length (now (line .entry)) ⌝ }
 {
@@ -64,7 +64,7 @@ fn is_header(file: &[u8], at: usize) -> bool
 }
 
 // Where the text that begins at `from` is over: at the next header, or with the file.
-pub fn past_text(file: &[u8], from: usize) -> usize
+pub(crate) fn past_text(file: &[u8], from: usize) -> usize
     requires { ⌜ from ≤ length (now file) ⌝ }
     ensures { λ r. ⌜ from ≤ r ⌝ }
     ensures { λ r. ⌜ r ≤ length (now (file .entry)) ⌝ }

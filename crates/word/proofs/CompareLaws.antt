@@ -1,13 +1,14 @@
 -- Comparisons over the width, as the code makes them on whole registers and on the signed type.
 use mathlib.Core.Path.{_≡_, ap, _∙_}
 use Prim.Native.Nat.{ℕ}
+use native.Mathlib.Omega.{arith}
 use lib.Dec.{ltb, eqb}
 use lib.IntN.{ℤ}
 use lib.Signed.{ltZ}
-use mir.Syntax.{Width, w64}
-use mir.Val.{Fits, toZ, ofZ}
-use mir.ValLaws.{toZ-ofZ}
-use Rattle.word.specs.Extend.{signed}
+use mir.Syntax.{Width, w32, w64}
+use mir.Val.{Fits, SFits, toZ, ofZ}
+use mir.ValLaws.{ofZ-fits, toZ-ofZ}
+use Rattle.word.specs.Extend.{signed, extend}
 use Rattle.word.specs.Compare.{lessSigned, lessUnsigned, same}
 use Rattle.word.proofs.Registers.{low-whole, signed-fits}
 
@@ -33,3 +34,15 @@ seen-both w a b {x} {y} o ex ey = (λ i. o (seen w a x ex i) (seen w b y ey i))
 pub less-signed : (w : Width) (a b : ℕ) (x y : ℤ) → x ≡ signed w a → y ≡ signed w b → ltZ (toZ w (ofZ w x)) (toZ w (ofZ w y)) ≡ lessSigned w a b
 unfolding lessSigned
 less-signed w a b x y ex ey = seen-both w a b ltZ ex ey
+
+-- a sign-extended word is the same signed number at 64 bits
+extended : (x : ℕ) → signed w64 (extend w32 x) ≡ signed w32 x
+unfolding extend
+extended x =
+    let f : SFits w64 (signed w32 x) = record { sfits = omega (arith, signed-fits w32 x .sfits) } in
+    ap (toZ w64) (low-whole (ofZ w64 (signed w32 x)) (ofZ-fits w64 (signed w32 x) f)) ∙ toZ-ofZ w64 (signed w32 x) f
+
+-- so SLT of two registers that hold words compares the words, as signed numbers of 32 bits
+pub less-words : (a b : ℕ) → lessSigned w64 (extend w32 a) (extend w32 b) ≡ lessSigned w32 a b
+unfolding lessSigned
+less-words a b = (λ i. ltZ (extended a i) (extended b i))

@@ -3,7 +3,6 @@ use Prim.Native.Nat.{ℕ}
 use mathlib.Core.Bool.{Bool, true, false}
 use lib.Dec.{eqb}
 use Rattle.promise.specs.Pick.{pick}
-use Rattle.memory.specs.declared.PAddr.{PAddr}
 use Rattle.cp0.specs.declared.Cp0.{Cp0}
 use Rattle.cp0.specs.Registers.{Wired, linked, slotRead, probed}
 use Rattle.cp0.specs.Moves.{moveIn}

@@ -1,22 +1,28 @@
 -- The twelve bench cards of document 01 as one table: one statement about the definitions of words, memory, TLB, CP0 and the step (B1).
-use Prim.Native.Nat.{ℕ}
+use Prim.Native.Nat.{ℕ, _%_, _<_}
 use mathlib.Core.Path.{_≡_}
 use mathlib.Core.Bool.{Bool, true, false}
-use mathlib.Core.List.{List}
+use mathlib.Core.List.{List, _∷_}
+use lib.ListN.{length, getD}
 use Rattle.memory.specs.declared.PAddr.{PAddr}
 use Rattle.memory.specs.declared.Eight.{Eight}
 use Rattle.memory.specs.declared.Eight.the-variants.{Ram}
+use Rattle.memory.specs.Bytes.{eightOf}
 use Rattle.memory.specs.Stores.{putBytes}
-use Rattle.tlb.specs.declared.Mode.the-variants.{User}
+use Rattle.memory.specs.StoreLaws.{Bytes}
+use Rattle.tlb.specs.declared.VAddr.{VAddr}
+use Rattle.tlb.specs.declared.Mode.{Mode}
+use Rattle.tlb.specs.declared.Mode.the-variants.{User, Error}
+use Rattle.tlb.specs.declared.Slot.{Slot}
 use Rattle.tlb.specs.declared.SlotWrite.the-variants.{Put}
 use Rattle.tlb.specs.declared.Where.the-variants.{Mapped, Invalid}
 use Rattle.tlb.specs.PageMask.{legalMask}
 use Rattle.tlb.specs.Slot.{slot, putSlot}
+use Rattle.tlb.specs.Match.{matchesAt}
 use Rattle.tlb.specs.Translate.{vaddr, paddr, halfOf}
-use Rattle.tlb.specs.Segments.{translate}
+use Rattle.tlb.specs.Segments.{aligned, translate}
 use Rattle.cp0.specs.declared.Cp0.{Cp0}
-use Rattle.cp0.specs.declared.Exception.the-variants.{TLBL, Ov}
-use Rattle.cp0.specs.Registers as cp0
+use Rattle.cp0.specs.declared.Exception.the-variants.{TLBL, TLBS, Ov}
 use Rattle.cp0.specs.Exceptions.{entered}
 use Rattle.decode.specs.declared.ArithmeticOp.the-variants.{ADD, ADDU}
 use Rattle.decode.specs.declared.MultiplyOp.the-variants.{DMULTU, DIV}
@@ -42,11 +48,23 @@ registersAfter regs e = putReg regs (e .reg) (e .value)
 abbrev pub ramAfter : List ℕ → Effect → List ℕ
 ramAfter ram e = putBytes ram (e .store)
 
--- the fresh machine's TLB once slot 0 is written with mask 0, EntryHi 00400001, EntryLo0 00000086 and EntryLo1 0
-unfoldable pub written : List ℕ
-written = putSlot (fresh .tlb) (Put 0 (slot 0 0x00400001 0x00000086 0))
+-- the values of card 10: mask 0, EntryHi 00400001, EntryLo0 00000086 and EntryLo1 0
+abbrev pub moved : Slot
+moved = slot 0 0x00400001 0x00000086 0
 
--- the cards; where one names no register, address or memory, it holds of every one
+-- a TLB once slot i is written with them
+abbrev pub written : List ℕ → ℕ → List ℕ
+written tlb i = putSlot tlb (Put i moved)
+
+-- what card 10 takes for granted of an address v: it is aligned for the access, its segment is mapped (ERL is 0), and of the 48 slots none but i matches it
+pub record Granted (mode : Mode) (tlb : List ℕ) (i align : ℕ) (v : VAddr) : Type 0 where
+  pub full : length tlb ≡ 192
+  pub there : i < 48
+  pub fits : aligned align v ≡ true
+  pub no-error : mode ≡ Error → ⊥
+  pub no-other : (j : ℕ) → j < 48 → (j ≡ i → ⊥) → matchesAt tlb 1 v j ≡ false
+
+-- the cards; where one names no register, address, memory, slot, mode or CP0, it holds of every one
 pub record Cards : Type 0 where
   -- 1. ADDU 7fffffff, 1: ffffffff80000000 (B2)
   pub card-1 : (rd : ℕ) → arithmetic ADDU 0x7fffffff 1 rd ≡ Write rd 0xffffffff80000000
@@ -63,19 +81,25 @@ pub record Cards : Type 0 where
   pub card-5 : multiply DIV 0xffffffff80000000 0xffffffffffffffff ≡ HiLo 0 0xffffffff80000000
   -- 6. SRA 80000000 by 31: all ones (B7)
   pub card-6 : (rd : ℕ) → shift SRA 0x80000000 31 rd ≡ Write rd 0xffffffffffffffff
-  -- 7. LB of 80: ffffffffffffff80; LBU: 80 (B8)
-  pub card-7 : (old : ℕ) → finish LB 0x8000000000000000 (paddr 0) old ≡ 0xffffffffffffff80
-  pub card-7-unsigned : (old : ℕ) → finish LBU 0x8000000000000000 (paddr 0) old ≡ 0x80
-  -- 8. LWL at address 1, memory 11 22 33 44, rt aabbccdd: 223344dd (B9)
-  pub card-8 : finish LWL 0x1122334400000000 (paddr 1) 0xaabbccdd ≡ 0x223344dd
+  -- 7. LB of 80: ffffffffffffff80; LBU: 80; of the eight bytes that hold p, the one at p is 80 (B8)
+  pub card-7 : (eight : List ℕ) (p : PAddr) (old : ℕ) → Bytes eight → getD eight (p .0 % 8) 0 ≡ 0x80 → finish LB (eightOf eight) p old ≡ 0xffffffffffffff80
+  pub card-7-unsigned : (eight : List ℕ) (p : PAddr) (old : ℕ) → Bytes eight → getD eight (p .0 % 8) 0 ≡ 0x80 → finish LBU (eightOf eight) p old ≡ 0x80
+  -- 8. LWL at address 1, memory 11 22 33 44, rt aabbccdd: 223344dd, whatever bytes follow (B9)
+  pub card-8 : (others : List ℕ) → Bytes others → finish LWL (eightOf (0x11 ∷ 0x22 ∷ 0x33 ∷ 0x44 ∷ others)) (paddr 1) 0xaabbccdd ≡ 0x223344dd
   -- 9. PageMask 00006000 legal, 00002000 not (B10)
   pub card-9 : legalMask 0x00006000 ≡ true
   pub card-9-not : legalMask 0x00002000 ≡ false
   -- 10. with ASID 1, 00400123 goes to 2123; 00401000 is invalid (B11)
-  pub card-10 : translate User 1 written 1 (vaddr 0x00400123) ≡ Mapped (paddr 0x2123) (halfOf 0 0 0x86)
-  pub card-10-invalid : translate User 1 written 1 (vaddr 0x00401000) ≡ Invalid (halfOf 0 1 0)
-  -- 11. a refill at 00400123 from Context 0 gives Context 00002000 (B12)
-  pub card-11 : (pc : ℕ) (slot : Bool) → entered cp0.fresh pc slot (TLBL (vaddr 0x00400123) true) .context ≡ 0x00002000
+  pub card-10 :
+      (mode : Mode) (tlb : List ℕ) (i align : ℕ)
+      → Granted mode tlb i align (vaddr 0x00400123) → translate mode 1 (written tlb i) align (vaddr 0x00400123) ≡ Mapped (paddr 0x2123) (halfOf i 0 0x86)
+  pub card-10-invalid :
+      (mode : Mode) (tlb : List ℕ) (i align : ℕ) → Granted mode tlb i align (vaddr 0x00401000) → translate mode 1 (written tlb i) align (vaddr 0x00401000) ≡ Invalid (halfOf i 1 0)
+  -- what they take for granted holds of the fresh machine's TLB, whichever slot is written
+  pub card-10-fresh : (i : ℕ) → i < 48 → Granted User (fresh .tlb) i 1 (vaddr 0x00400123) × Granted User (fresh .tlb) i 1 (vaddr 0x00401000)
+  -- 11. a refill at 00400123, of a load or fetch or of a store, from Context 0 gives Context 00002000 (B12)
+  pub card-11 : (c : Cp0) (pc : ℕ) (slot : Bool) → c .context ≡ 0 → entered c pc slot (TLBL (vaddr 0x00400123) true) .context ≡ 0x00002000
+  pub card-11-store : (c : Cp0) (pc : ℕ) (slot : Bool) → c .context ≡ 0 → entered c pc slot (TLBS (vaddr 0x00400123) true) .context ≡ 0x00002000
   -- 12. SC with the link bit clear: memory kept, rt 0 (B13)
   pub card-12 : (ram : List ℕ) (rt value n : ℕ) (p : PAddr) → ramAfter ram (sent SC rt false value p (Ram n)) ≡ ram
   pub card-12-rt : (rt value n : ℕ) (p : PAddr) → (sent SC rt false value p (Ram n) .reg ≡ rt) × (sent SC rt false value p (Ram n) .value ≡ 0)

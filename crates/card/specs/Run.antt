@@ -67,6 +67,6 @@ runOf rom lines budget m ram = pick (eqb (refusal m ram rom lines) 0) (steps rom
 abbrev pub ran : Whole → Ran
 ran w = record { machine = w .machine; steps = w .steps; stop = w .stop }
 
--- a single step is a run with budget 1 (reading 1)
+-- a single step is a run with budget 1 (row 1 of docs/DECISIONS.md)
 abbrev pub stepped : Whole → Stepped
 stepped w = record { machine = w .machine; stop = w .stop }

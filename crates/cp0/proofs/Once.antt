@@ -5,8 +5,6 @@ use Rattle.cp0.proofs.status.user.Kinds as user-kinds
 use Rattle.cp0.proofs.status.user.Reads as user-reads
 use Rattle.cp0.proofs.status.mode_of.Kinds as mode-of-kinds
 use Rattle.cp0.proofs.status.mode_of.Reads as mode-of-reads
-use Rattle.cp0.proofs.status.cp0_usable.Kinds as cp0-usable-kinds
-use Rattle.cp0.proofs.status.cp0_usable.Reads as cp0-usable-reads
 use Rattle.cp0.proofs.status.cause_read.Kinds as cause-read-kinds
 use Rattle.cp0.proofs.status.cause_read.Reads as cause-read-reads
 use Rattle.cp0.proofs.status.interrupted.Kinds as interrupted-kinds
@@ -65,9 +63,6 @@ user-once κs a p z₁ z₂ ws₁ ws₂ h₁ h₂ = (same h₁ h₂, refl)
 
 pub mode-of-once : Unique mode-of-kinds.ps mode-of-kinds.r mode-of-reads.Pre mode-of-reads.Post
 mode-of-once κs a p z₁ z₂ ws₁ ws₂ h₁ h₂ = (same h₁ h₂, refl)
-
-pub cp0-usable-once : Unique cp0-usable-kinds.ps cp0-usable-kinds.r cp0-usable-reads.Pre cp0-usable-reads.Post
-cp0-usable-once κs a p z₁ z₂ ws₁ ws₂ h₁ h₂ = (same h₁ h₂, refl)
 
 pub cause-read-once : Unique cause-read-kinds.ps cause-read-kinds.r cause-read-reads.Pre cause-read-reads.Post
 cause-read-once κs a p z₁ z₂ ws₁ ws₂ h₁ h₂ = (same h₁ h₂, refl)

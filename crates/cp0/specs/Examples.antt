@@ -6,15 +6,10 @@ use Rattle.tlb.specs.PageMask.{legalMask, trailingOnes}
 use Rattle.tlb.specs.declared.Mode.the-variants.{User, Kernel, Error}
 use Rattle.cp0.specs.declared.Move.the-variants.{NotBuilt}
 use Rattle.cp0.specs.declared.Exception.the-variants.{Int, TLBL, CpU}
-use Rattle.cp0.specs.Registers.{set, fresh}
+use Rattle.cp0.specs.Registers.{fresh}
 use Rattle.cp0.specs.Status.{user, modeOf, causeRead, interrupted}
 use Rattle.cp0.specs.Moves.{builtStatus, checkMove}
-use Rattle.cp0.specs.Exceptions.{told, addressed, entered, offset, vector, epcAfter, bdAfter, causeAfter}
-
--- bench card 11: a refill at 00400123 from Context 0 gives Context 00002000 (B12)
-pub card11 : entered fresh 0 false (TLBL (record { 0 = 0x00400123 }) true) .context ≡ 0x00002000
-unfolding set fresh told addressed entered
-card11 = refl
+use Rattle.cp0.specs.Exceptions.{told, offset, vector, epcAfter, bdAfter, causeAfter}
 
 -- with EXL clear, EPC names the branch of a slot; with EXL set it stays (T25, X3)
 slot-epc : epcAfter 0x00000000 0 0x80000104 true ≡ 0x80000100

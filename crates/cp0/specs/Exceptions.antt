@@ -1,6 +1,8 @@
 -- The entry of an exception, its vector, and the return from it.
-use Prim.Native.Nat.{ℕ, _+_, _*_, _%_, _^_}
+use Prim.Native.Nat.{ℕ, _+_, _*_, _-_, _<_, _%_, _^_}
+use mathlib.Core.Path.{_≡_}
 use mathlib.Core.Bool.{Bool, false}
+use native.Mathlib.Omega.{arith}
 use Rattle.promise.specs.Pick.{pick, both, not}
 use Rattle.promise.specs.Bits.{bit, bits}
 use Rattle.cp0.specs.declared.Cp0.{Cp0}
@@ -32,13 +34,17 @@ told (CpU unit) = tells 11 (unit % 4) false Nothing
 told Ov = tells 12 0 false Nothing
 told Tr = tells 13 0 false Nothing
 
--- an exception's code (T22, T23)
-abbrev pub codeOf : Exception → ℕ
-codeOf e = told e .code
+-- the branch before a slot at pc: four bytes back, wrapping at 2^64 (T25)
+abbrev pub branchOf : ℕ → ℕ
+branchOf pc = (pc + (2 ^ 64 - 4)) % 2 ^ 64
+
+-- the instruction after that branch is the slot
+pub after-branch : (pc : ℕ) → pc < 2 ^ 64 → (branchOf pc + 4) % 2 ^ 64 ≡ pc
+after-branch pc h = omega arith
 
 -- EPC: it stays while EXL is set; else the branch if the step stood in a slot, else PC (T25)
 unfoldable pub epcAfter : ℕ → ℕ → ℕ → Bool → ℕ
-epcAfter status epc pc slot = pick (EXL status) epc (pick slot ((pc + 0xfffffffffffffffc) % 2 ^ 64) pc)
+epcAfter status epc pc slot = pick (EXL status) epc (pick slot (branchOf pc) pc)
 
 -- BD: it stays while EXL is set; else whether the step stood in a slot (T25)
 unfoldable pub bdAfter : ℕ → ℕ → Bool → ℕ

@@ -1,6 +1,6 @@
 -- The fields of Status and Cause, the mode, and when an interrupt is taken.
 use Prim.Native.Nat.{ℕ, _%_, _^_}
-use mathlib.Core.Bool.{Bool, true}
+use mathlib.Core.Bool.{Bool}
 use lib.Bits.{bitAnd}
 use lib.Dec.{eqb}
 use Rattle.promise.specs.Pick.{pick, both, either, not}
@@ -44,10 +44,6 @@ user status = both (eqb (KSU status) 2) (not (either (EXL status) (ERL status)))
 -- User mode; Kernel mode, in which ERL has the low half unmapped (D4, D5, D7)
 unfoldable pub modeOf : ℕ → Mode
 modeOf status = pick (user status) User (pick (ERL status) Error Kernel)
-
--- CP0 instructions and CACHE need Kernel mode or CU0 (T21)
-unfoldable pub cp0Usable : ℕ → Bool
-cp0Usable status = pick (user status) (CU0 status) true
 
 -- Cause as it reads: IP6..2 are the lines (T18)
 unfoldable pub causeRead : ℕ → ℕ → ℕ

@@ -19,7 +19,6 @@ pub use registers::kept;
 pub use registers::linked;
 pub use registers::probed;
 pub use registers::slot_read;
-pub use status::cp0_usable;
 pub use status::interrupted;
 pub use status::mode_of;
 pub use status::user;

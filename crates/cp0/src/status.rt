@@ -32,16 +32,6 @@ pub fn mode_of(status: u32) -> Mode
     Mode::Kernel
 }
 
-// Whether CP0 instructions and CACHE may be used.
-pub fn cp0_usable(status: u32) -> bool
-    ensures { λ r. ⌜ r ≡ S.cp0Usable status ⌝ }
-{
-    if user(status) {
-        return status / 0x1000_0000 % 2 == 1;
-    }
-    true
-}
-
 // Cause with the lines in IP6..2, as it reads.
 pub fn cause_read(cause: u32, lines: u8) -> u32
     ensures { λ r. ⌜ r ≡ S.causeRead cause lines ⌝ }

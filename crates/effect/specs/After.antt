@@ -1,14 +1,14 @@
 -- How Cpu and CP0 go on after a step, each in one place. A counted step ends with Count, Compare and Random (S8).
-use Prim.Native.Nat.{ℕ, _+_, _%_, _^_}
+use Prim.Native.Nat.{ℕ}
 use mathlib.Core.Bool.{Bool, true, false}
 use lib.Dec.{eqb}
 use Rattle.promise.specs.Pick.{pick}
-use Rattle.memory.specs.declared.PAddr.{PAddr}
 use Rattle.cp0.specs.declared.Cp0.{Cp0}
 use Rattle.cp0.specs.Registers.{Wired, linked, slotRead, probed}
 use Rattle.cp0.specs.Moves.{moveIn}
 use Rattle.cp0.specs.Exceptions.{entered, vector, returned, returnTo}
 use Rattle.cp0.specs.Tick.{ended}
+use Rattle.execute.specs.Address.{slotAddress, afterSlot}
 use Rattle.effect.specs.declared.Cpu.{Cpu}
 use Rattle.effect.specs.declared.Turn.{Turn}
 use Rattle.effect.specs.declared.Turn.the-variants.{Next, Branch, Skip, HiLo, Link, Enter, Move, Read, Probed, Eret, Stay}
@@ -17,17 +17,13 @@ use Rattle.effect.specs.declared.Turn.the-variants.{Next, Branch, Skip, 
 abbrev pub cpuOf : ℕ → Bool → ℕ → ℕ → ℕ → Bool → Cpu
 cpuOf pc slot target hi lo link = record { pc = pc; slot = slot; target = target; hi = hi; lo = lo; link = link }
 
--- so many bytes further, wrapping at 2^64
-abbrev pub further : ℕ → ℕ → ℕ
-further pc n = (pc + n) % 2 ^ 64
-
 -- after a pending slot its target, else the next instruction; with this HI, LO and link bit
 unfoldable pub onward : Cpu → ℕ → ℕ → Bool → Cpu
-onward cpu hi lo link = cpuOf (pick (cpu .slot) (cpu .target) (further (cpu .pc) 4)) false 0 hi lo link
+onward cpu hi lo link = cpuOf (pick (cpu .slot) (cpu .target) (slotAddress (cpu .pc))) false 0 hi lo link
 
 -- a branch leaves its slot pending, with where it leads (S13)
 unfoldable pub pending : Cpu → ℕ → Cpu
-pending cpu to = cpuOf (further (cpu .pc) 4) true to (cpu .hi) (cpu .lo) (cpu .link)
+pending cpu to = cpuOf (slotAddress (cpu .pc)) true to (cpu .hi) (cpu .lo) (cpu .link)
 
 -- at an address, with nothing pending
 unfoldable pub arrived : Cpu → ℕ → Bool → Cpu
@@ -37,7 +33,7 @@ arrived cpu pc link = cpuOf pc false 0 (cpu .hi) (cpu .lo) link
 unfoldable pub cpuAfter : Cpu → Cp0 → Turn → Cpu
 cpuAfter cpu cp0 Next = onward cpu (cpu .hi) (cpu .lo) (cpu .link)
 cpuAfter cpu cp0 (Branch to) = pending cpu to
-cpuAfter cpu cp0 Skip = arrived cpu (further (cpu .pc) 8) (cpu .link)
+cpuAfter cpu cp0 Skip = arrived cpu (afterSlot (cpu .pc)) (cpu .link)
 cpuAfter cpu cp0 (HiLo hi lo) = onward cpu hi lo (cpu .link)
 cpuAfter cpu cp0 (Link p) = onward cpu (cpu .hi) (cpu .lo) true
 cpuAfter cpu cp0 (Enter e) = arrived cpu (vector (cp0 .status) e) (cpu .link)

@@ -1,23 +1,14 @@
--- Worked examples: bench card 2, and the places where a branch, a jump or an immediate is easily got wrong. The definitions give these by computation.
+-- Worked examples: the places where a branch, a jump or an immediate is easily got wrong. The definitions give these by computation.
 use mathlib.Core.Path.{_≡_, refl}
-use mathlib.Core.Bool.{true, false}
-use Rattle.decode.specs.declared.ArithmeticOp.the-variants.{ADD}
 use Rattle.decode.specs.declared.ArithmeticImmediateOp.the-variants.{SLTIU}
 use Rattle.decode.specs.declared.BranchOp.the-variants.{BEQ, BLEZ, BGTZL, BGEZAL}
 use Rattle.decode.specs.declared.JumpOp.the-variants.{J}
-use Rattle.word.specs.Extend.{register, extend}
-use Rattle.word.specs.Sum.{checked, checkedSum}
+use Rattle.word.specs.Extend.{extend}
 use Rattle.word.specs.Compare.{lessUnsigned}
-use Rattle.cp0.specs.declared.Exception.the-variants.{Ov}
-use Rattle.execute.specs.declared.Act.the-variants.{Write, Branch, Skip, Raise}
-use Rattle.execute.specs.Arithmetic.{trapping, arithmetic, arithmeticImmediate}
+use Rattle.execute.specs.declared.Act.the-variants.{Write, Branch, Skip}
+use Rattle.execute.specs.Arithmetic.{arithmeticImmediate}
 use Rattle.execute.specs.Branches.{equal, atLeastZero, atMostZero, aboveZero, branchTarget, plain, likely, branch}
 use Rattle.execute.specs.Jumps.{jumpTarget, jump}
-
--- card 2: ADD of 7fffffff and 1 raises Integer Overflow, and rd is kept
-pub card-2 : arithmetic ADD 0x7fff_ffff 1 9 ≡ Raise Ov
-unfolding arithmetic trapping checkedSum checked register
-card-2 = refl
 
 -- SLTIU extends the sign: any small number is less than ffff
 pub sltiu-ffff : arithmeticImmediate SLTIU 5 0xffff 9 ≡ Write 9 1

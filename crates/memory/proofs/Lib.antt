@@ -1,5 +1,5 @@
 -- Why the functions meet their definitions.
-pub mod Cards
+pub mod Examples
 pub mod Tables
 pub mod Runs
 pub mod Spans

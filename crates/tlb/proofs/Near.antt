@@ -1,22 +1,30 @@
--- Where a mapped address leads depends on its 4 KiB page alone: addresses of one page go through the same half to one physical page.
-use Prim.Native.Nat.{ℕ, zero, suc, _+_, _*_, _/_, _%_, _^_}
+-- Where an address leads depends on its 4 KiB page alone: mapped addresses of one page go through the same half to one physical page, unmapped ones lie side by side.
+use Prim.Native.Nat.{ℕ, zero, suc, _+_, _*_, _/_, _%_, _^_, _<_}
 use mathlib.Core.Path.{_≡_, refl, sym, ap, ap₂, _∙_}
 use mathlib.Core.Bool.{Bool, true, false}
 use mathlib.Core.List.{List}
 use native.Mathlib.Nat.{add-comm}
+use native.Mathlib.Decide.{decLt}
 use native.Mathlib.Omega.{arith}
+use lib.Dec.{ltb}
 use lib.Pow.{mod-pow-add, pow-add, shr-shr}
+use borrow.Author.Tests.{lt-ltb, le-ltb}
+use Rattle.promise.specs.Pick.{pick}
 use Rattle.memory.specs.declared.PAddr.{PAddr}
 use Rattle.tlb.specs.declared.VAddr.{VAddr}
 use Rattle.tlb.specs.declared.Half.{Half}
 use Rattle.tlb.specs.declared.Found.{Found}
 use Rattle.tlb.specs.declared.Found.the-variants.{Absent, One, Many}
+use Rattle.tlb.specs.declared.Mode.{Mode}
+use Rattle.tlb.specs.declared.Mode.the-variants.{User, Kernel, Error}
+use Rattle.tlb.specs.declared.Where.{Where}
 use Rattle.tlb.specs.declared.Where.the-variants.{Mapped}
 use Rattle.tlb.specs.PageMask.{trailingOnes, run, pageBits}
 use Rattle.tlb.specs.Slot.{slotAt, frame, validOf}
 use Rattle.tlb.specs.Match.{hits, matchesAt, more, seek, lookup}
 use Rattle.tlb.specs.SamePage.{SamePage, toward}
 use Rattle.tlb.specs.Translate.{vaddr, paddr, physical, oddOf, loOf, through, throughSlot, throughFound, mapped}
+use Rattle.tlb.specs.Segments.{word, upper, segment}
 
 module _ (v w : VAddr) (same : SamePage v w) where
   -- they have the same page number
@@ -83,6 +91,33 @@ module _ (v w : VAddr) (same : SamePage v w) where
   pub mapped-near : (tlb : List ℕ) (asid : ℕ) → mapped tlb asid w ≡ toward w (mapped tlb asid v)
   unfolding mapped
   mapped-near tlb asid = rw (← lookup-near v w same tlb asid) (found-near tlb (lookup tlb asid v))
+
+  -- no segment begins within a page
+  limit-near : (k : ℕ) → ltb (word v) (k * 2 ^ 12) ≡ ltb (word w) (k * 2 ^ 12)
+  limit-near k = go (decLt (word v) (k * 2 ^ 12))
+    where
+      go : Dec (word v < k * 2 ^ 12) → ltb (word v) (k * 2 ^ 12) ≡ ltb (word w) (k * 2 ^ 12)
+      go (yes h) = lt-ltb (word v) (k * 2 ^ 12) h ∙ sym (lt-ltb (word w) (k * 2 ^ 12) (omega arith))
+      go (no n) = le-ltb (word v) (k * 2 ^ 12) (omega arith) ∙ sym (le-ltb (word w) (k * 2 ^ 12) (omega arith))
+
+  toward-pick : (b : Bool) (x y : Where) → toward w (pick b x y) ≡ pick b (toward w x) (toward w y)
+  toward-pick true x y = refl
+  toward-pick false x y = refl
+
+  upper-near : (tlb : List ℕ) (asid : ℕ) → upper asid tlb w ≡ toward w (upper asid tlb v)
+  unfolding upper toward
+  upper-near tlb asid =
+      let e : word w % 2 ^ 29 ≡ word v % 2 ^ 29 / 2 ^ 12 * 2 ^ 12 + w .0 % 2 ^ 12 = omega arith in
+      rw (toward-pick (ltb (word v) 0xc0000000), limit-near 0xc0000, e, mapped-near tlb asid)
+
+  -- so it is in every segment, mapped or not
+  pub segment-near : (mode : Mode) (tlb : List ℕ) (asid : ℕ) → segment mode asid tlb w ≡ toward w (segment mode asid tlb v)
+  unfolding segment toward
+  segment-near User tlb asid = rw (toward-pick (ltb (word v) 0x80000000), limit-near 0x80000, mapped-near tlb asid)
+  segment-near Kernel tlb asid = rw (toward-pick (ltb (word v) 0x80000000), limit-near 0x80000, mapped-near tlb asid, upper-near tlb asid)
+  segment-near Error tlb asid =
+      let e : word w ≡ word v / 2 ^ 12 * 2 ^ 12 + w .0 % 2 ^ 12 = omega arith in
+      rw (toward-pick (ltb (word v) 0x80000000), limit-near 0x80000, e, upper-near tlb asid)
 
 -- the physical address keeps the offset in 4 KiB
 through-offset : (mask i odd lo v : ℕ) (p : PAddr) (h : Half) → through mask i odd lo v ≡ Mapped p h → p .0 % 2 ^ 12 ≡ v % 2 ^ 12

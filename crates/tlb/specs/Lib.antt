@@ -8,4 +8,3 @@ pub mod SamePage
 pub mod Segments
 pub mod Probe
 pub mod Range
-pub mod Cards

@@ -7,4 +7,4 @@ pub mod Shift
 pub mod Product
 pub mod Quotient
 pub mod Word
-pub mod Cards
+pub mod Examples

@@ -6,4 +6,5 @@ pub mod StepStops
 pub mod Twice
 pub mod Runs
 pub mod Range
+pub mod Given
 pub mod Useless

@@ -1,8 +1,11 @@
 -- The proofs of demands 1 and 2.
 pub mod Stages
-pub mod Branches
+pub mod Onward
+pub mod Checks
 pub mod Why
 pub mod StepStops
+pub mod StepRaises
+pub mod Lands
 pub mod Twice
 pub mod Runs
 pub mod Refusals

@@ -4,7 +4,6 @@ use mathlib.Core.Path.{_≡_, refl, _∙_, ap}
 use Rattle.card.specs.declared.Machine.{Machine}
 use Rattle.card.specs.Machine.{fresh}
 use Rattle.card.specs.Run.{Whole}
-use Rattle.demands.specs.Call.{Call, run}
 use Rattle.demands.specs.Given.{allBelow, Given}
 use Rattle.demands.specs.Useless.{Emulator, Right, RefusesAll, AlwaysFresh, Untouched, AllAtOnce, MadeUp, Useless}
 use Rattle.demands.proofs.Example.{atStart, program, branches, branchesLater, worked, given}

@@ -2,6 +2,8 @@
 pub mod Stages
 pub mod Onward
 pub mod Checks
+pub mod Writes
+pub mod Acts
 pub mod Why
 pub mod StepStops
 pub mod StepRaises
@@ -11,8 +13,6 @@ pub mod Runs
 pub mod Refusals
 pub mod Fields
 pub mod RunStops
-pub mod Writes
-pub mod Acts
 pub mod Turns
 pub mod Range
 pub mod Stays

@@ -88,7 +88,7 @@ module _ (m : Machine) (s o : List ℕ) (lines : ℕ) where
       stages.at-word m s o lines w b ∙ ap (readied (m .cpu) (m .cp0) (m .regs) (m .tlb) (read s o) lines w) (unusable-ready _ _ (m .cpu .slot) k)
   raises-raised (reserved w b k) =
       stages.at-word m s o lines w b ∙ ap (readied (m .cpu) (m .cp0) (m .regs) (m .tlb) (read s o) lines w) (reserved-ready _ _ (m .cpu .slot) k)
-  raises-raised (Raises.executed x) = stages.at-executed m s o lines _ x
+  raises-raised (Raises.executed f x) = stages.at-executed m s o lines _ x
   raises-raised (load-fault op reg at x r) = stages.at-executed m s o lines _ x ∙ load-faults op reg _ at (read s o) r
   raises-raised (load-bus op reg at p x l e) = stages.at-executed m s o lines _ x ∙ load-misses op reg _ at (read s o) l e
   raises-raised (store-fault op reg at x r) = stages.at-executed m s o lines _ x ∙ store-faults op reg _ _ at (read s o) r

@@ -56,9 +56,11 @@ use Rattle.demands.specs.StepStops.{r0, effect, goes, Fetches, LeadsTo, 
 use Rattle.demands.specs.StepStops.LeadsTo.{mapped, unmapped}
 use Rattle.demands.specs.StepStops.Holds.{ram, rom}
 use Rattle.demands.specs.StepStops.Twice.{at-fetch, at-load, at-store, at-probe}
-use Rattle.demands.specs.StepRaises.{ReadFault, WriteFault, MayStore, NoRam, Raises}
+use Rattle.demands.specs.StepRaises.{ReadFault, WriteFault, MayStore, NoRam, OfExecute, Raises}
 use Rattle.demands.specs.StepRaises.Raises.{interrupt, fetch-fault, fetch-bus, unusable, reserved, load-fault, load-bus, store-fault, store-bus}
 use Rattle.demands.proofs.Onward.{entering, On, quiet, linking-on, sending-on, led-on, out-lands}
+use Rattle.demands.proofs.Writes.{goes-small}
+use Rattle.demands.proofs.Acts.{Apt, apt-executed}
 use Rattle.demands.proofs.Checks.{Checked, checked}
 use Rattle.demands.proofs.Stages as stages
 
@@ -125,6 +127,10 @@ module _ (m : Machine) (s o : List ℕ) (lines : ℕ) where
     saved-why Double e = twice (at-store op reg v x e) refl
     saved-why AddressError e = enters _ (store-raises e WriteFault.address) refl
 
+  of-execute : (e : Exception) → Executes m s o lines (done.Plain (act.Raise e)) → OfExecute e
+  unfolding Apt
+  of-execute e x = subst Apt (x .comes) (apt-executed (x .instr) _ _ _ _ _ (goes-small _ _ _ (x .word) (x .instr) (x .may)))
+
   asked-why : (value : ℕ) (a : Act) → Executes m s o lines (done.Plain a) → Why (asked (m .cpu) (m .cp0) (m .tlb) (read s o) value a)
   unfolding asked wrote turned
   asked-why value act.Nothing x = on _ _ _ _ refl
@@ -134,7 +140,7 @@ module _ (m : Machine) (s o : List ℕ) (lines : ℕ) where
   asked-why value (act.Skip r) x = on _ _ _ _ refl
   asked-why value (act.Load op reg at) x = loaded-why op reg value at x _ refl
   asked-why value (act.Store op reg at) x = saved-why op reg value at x _ refl
-  asked-why value (act.Raise e) x = enters e (Raises.executed x) refl
+  asked-why value (act.Raise e) x = enters e (Raises.executed (of-execute e x) x) refl
 
   from-slot-why : (x : SlotRead) → Why (fromSlot x)
   unfolding fromSlot turned

@@ -15,7 +15,7 @@ use Rattle.tlb.specs.declared.Where.{Where}
 use Rattle.tlb.specs.declared.Where.the-variants.{Mapped, Unmapped, Invalid, Refill, AddressError}
 use Rattle.tlb.specs.Translate.{vaddr}
 use Rattle.cp0.specs.declared.Exception.{Exception}
-use Rattle.cp0.specs.declared.Exception.the-variants.{Int, Mod, TLBL, TLBS, AdEL, AdES, IBE, DBE, RI, CpU}
+use Rattle.cp0.specs.declared.Exception.the-variants.{Int, Mod, TLBL, TLBS, AdEL, AdES, IBE, DBE, Sys, Bp, RI, CpU, Ov, Tr}
 use Rattle.cp0.specs.Status.{CU0, user, interrupted}
 use Rattle.decode.specs.declared.Instr.{Instr}
 use Rattle.decode.specs.declared.Decoded.{Decoded}
@@ -70,6 +70,13 @@ pub data IsReserved (u cu0 : Bool) : Decoded → Type 0 where
   code-reserved : locked u cu0 ≡ false → IsReserved u cu0 ReservedCop0
   doubleword : {i : Instr} → both (locked u cu0) (isCp0 i) ≡ false → u ≡ true → isDouble i ≡ true → IsReserved u cu0 (Is i)
 
+-- the exceptions of instructions that ask memory for nothing: overflow, trap, system call, breakpoint (S7)
+pub data OfExecute : Exception → Type 0 where
+  overflow : OfExecute Ov
+  trap : OfExecute Tr
+  system-call : OfExecute Sys
+  breakpoint : OfExecute Bp
+
 -- what a step raises
 pub data Raises (m : Machine) (ram rom : List ℕ) (lines : ℕ) : Exception → Type 0 where
   interrupt : r0 m ≡ 0 → interrupted (m .cp0 .status) (m .cp0 .cause) lines ≡ true → Raises m ram rom lines Int
@@ -77,7 +84,7 @@ pub data Raises (m : Machine) (ram rom : List ℕ) (lines : ℕ) : Exception →
   fetch-bus : (p : PAddr) → Fetches m lines → LeadsTo (goes m 4 (vaddr (m .cpu .pc))) p → read ram rom p ≡ Missing → Raises m ram rom lines IBE
   unusable : (w unit : ℕ) → Brings m ram rom lines w → Unusable (user (m .cp0 .status)) (CU0 (m .cp0 .status)) (decode w) unit → Raises m ram rom lines (CpU unit)
   reserved : (w : ℕ) → Brings m ram rom lines w → IsReserved (user (m .cp0 .status)) (CU0 (m .cp0 .status)) (decode w) → Raises m ram rom lines RI
-  executed : {e : Exception} → Executes m ram rom lines (Plain (Raise e)) → Raises m ram rom lines e
+  executed : {e : Exception} → OfExecute e → Executes m ram rom lines (Plain (Raise e)) → Raises m ram rom lines e
   load-fault : {e : Exception} (op : LoadOp) (reg : ℕ) (at : VAddr) → Executes m ram rom lines (Plain (Load op reg at)) → ReadFault at (goes m (loadAlign op) at) e → Raises m ram rom lines e
   load-bus : (op : LoadOp) (reg : ℕ) (at : VAddr) (p : PAddr) → Executes m ram rom lines (Plain (Load op reg at)) → LeadsTo (goes m (loadAlign op) at) p → read ram rom p ≡ Missing → Raises m ram rom lines DBE
   store-fault : {e : Exception} (op : StoreOp) (reg : ℕ) (at : VAddr) → Executes m ram rom lines (Plain (Store op reg at)) → WriteFault at (goes m (storeAlign op) at) e → Raises m ram rom lines e

@@ -1,15 +1,18 @@
 -- The proofs of demands 1 and 2.
 pub mod Stages
-pub mod Branches
+pub mod Onward
+pub mod Checks
+pub mod Writes
+pub mod Acts
 pub mod Why
 pub mod StepStops
+pub mod StepRaises
+pub mod Lands
 pub mod Twice
 pub mod Runs
 pub mod Refusals
 pub mod Fields
 pub mod RunStops
-pub mod Writes
-pub mod Acts
 pub mod Turns
 pub mod Range
 pub mod Stays

@@ -20,7 +20,6 @@ use Rattle.tlb.specs.declared.Found.{Found}
 use Rattle.tlb.specs.declared.Found.the-variants.{Absent, One, Many}
 use Rattle.tlb.specs.declared.SlotWrite.the-variants.{Keep, Put}
 use Rattle.tlb.specs.declared.SlotRead.the-variants as slotRead
-use Rattle.tlb.specs.declared.Probe.the-variants as probed
 use Rattle.tlb.specs.Slot.{asidOf, slotAt, shown, readSlot}
 use Rattle.tlb.specs.Match.{lookup}
 use Rattle.tlb.specs.Probe.{probe}
@@ -62,11 +61,11 @@ use Rattle.effect.specs.declared.Effect.{Effect}
 use Rattle.effect.specs.Effect.{effects, turned, wrote, raised, stopped}
 use Rattle.effect.specs.Access.{got, loaded, sending, sent, saved}
 use Rattle.effect.specs.Step as step
-use Rattle.effect.specs.Step.{leads, moved, fromSlot, fromProbe, tlbDone, movedTo, asked, commanded, executed, readied, begun, fetched, effectOf}
+use Rattle.effect.specs.Step.{moved, fromSlot, fromProbe, tlbDone, movedTo, asked, commanded, executed, readied, begun, fetched, effectOf}
 use Rattle.demands.proofs.Writes.{goes-small}
 use Rattle.demands.proofs.Turns as fine
 use Rattle.demands.proofs.Turns.{Fine}
-use Rattle.demands.proofs.Acts.{Low, lows, low-executed}
+use Rattle.demands.proofs.Acts.{Apt, apt-executed}
 
 -- an effect that keeps a machine in range
 pub record Keeps (cp0 : Cp0) (e : Effect) : Type 0 where
@@ -145,8 +144,8 @@ module _ (cpu : Cpu) (cp0 : Cp0) (regs tlb : List ℕ) (look : PAddr → Eight) 
   saved-keeps op reg b value v Double l = stopped-keeps _
   saved-keeps op reg b value v AddressError l = raised-keeps _
 
-  asked-keeps : (value : ℕ) (x : Act) → Low (done.Plain x) → Keeps cp0 (asked cpu cp0 tlb look value x)
-  unfolding asked lows
+  asked-keeps : (value : ℕ) (x : Act) → Apt (done.Plain x) → Keeps cp0 (asked cpu cp0 tlb look value x)
+  unfolding asked Apt
   asked-keeps value act.Nothing h = turned-keeps _ next-fine
   asked-keeps value (act.Write reg v) h = wrote-keeps reg v h
   asked-keeps value (act.HiLo hi lo) h = turned-keeps _ (fine.hilo-fine cp0 tlb r t hi lo)
@@ -186,21 +185,21 @@ module _ (cpu : Cpu) (cp0 : Cp0) (regs tlb : List ℕ) (look : PAddr → Eight) 
   moved-keeps n v Built e = turned-keeps _ (fine.move-fine cp0 tlb r t n v e)
   moved-keeps n v NotBuilt e = stopped-keeps 18
 
-  commanded-keeps : (lines : ℕ) (x : Command) → Low (done.Command x) → Keeps cp0 (commanded cp0 tlb lines x)
-  unfolding commanded lows
+  commanded-keeps : (lines : ℕ) (x : Command) → Apt (done.Command x) → Keeps cp0 (commanded cp0 tlb lines x)
+  unfolding commanded Apt
   commanded-keeps lines (command.MoveFrom reg n d) h = wrote-keeps reg _ h
   commanded-keeps lines (command.MoveTo n v) h = moved-keeps n v _ refl
   commanded-keeps lines (command.Tlb op) h = tlb-keeps op
   commanded-keeps lines command.Eret h = turned-keeps _ (fine.eret-fine cp0 tlb r t)
 
-  executed-keeps : (lines value : ℕ) (x : Executed) → Low x → Keeps cp0 (executed cpu cp0 tlb look lines value x)
+  executed-keeps : (lines value : ℕ) (x : Executed) → Apt x → Keeps cp0 (executed cpu cp0 tlb look lines value x)
   unfolding executed
   executed-keeps lines value (done.Plain a) h = asked-keeps value a h
   executed-keeps lines value (done.Command c) h = commanded-keeps lines c h
 
   readied-keeps : (lines w : ℕ) (x : Ready) → ready (user (cp0 .status)) (CU0 (cp0 .status)) (cpu .slot) (decode w) ≡ x → Keeps cp0 (readied cpu cp0 regs tlb look lines w x)
   unfolding readied
-  readied-keeps lines w (Go i) e = executed-keeps lines _ _ (low-executed i _ _ _ _ _ (goes-small _ _ _ w i e))
+  readied-keeps lines w (Go i) e = executed-keeps lines _ _ (apt-executed i _ _ _ _ _ (goes-small _ _ _ w i e))
   readied-keeps lines w (Unusable n) e = raised-keeps _
   readied-keeps lines w Reserved e = raised-keeps _
   readied-keeps lines w InSlot e = stopped-keeps _

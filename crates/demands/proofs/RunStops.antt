@@ -98,6 +98,14 @@ module _ (c : Call) where
       ∙ ended (c .rom) (c .lines) (c .budget) (t .before) (c .machine) (c .ram) (t .within) (record { no-stop = t .go-on .no-stop; all-counted = t .go-on .all-counted }) (λ z. omega arith)
       ∙ e
 
+  -- the step after the counted ones is the one that stopped
+  stopped-next : Accepted c → 1 ≤ run c .stop → next c (run c .steps) .stop ≡ run c .stop
+  stopped-next a l = go how
+    where
+      go : AllOn ⊎ OneStops → next c (run c .steps) .stop ≡ run c .stop
+      go (inl o) = let z = all-stop a o in absurd (omega arith)
+      go (inr t) = rw (steps-of a t) (sym (stop-of a t))
+
   within : run c .steps ≤ c .budget
   within = go (decLe 1 (run c .stop)) (decLe (run c .stop) 4)
     where
@@ -129,6 +137,7 @@ module _ (c : Call) where
         within-budget = within;
         all-used = λ e. let u = uses e in all-steps (u .accepted) (record { no-stop = u .go-on .no-stop; all-counted = u .go-on .all-counted });
         counted = λ a. left a .counted;
+        stopped-next = stopped-next;
         machine-left = λ a. left a .machine;
         ram-left = λ a. left a .ram;
       }

@@ -17,15 +17,11 @@ use Rattle.effect.specs.declared.Effect.{Effect}
 use Rattle.effect.specs.Fetch.{wordFound, wordAt}
 use Rattle.effect.specs.Step.{executed, readied, decoded, begun, effectOf}
 use Rattle.card.specs.declared.Machine.{Machine}
-use Rattle.demands.specs.StepStops.{goes, Fetches, LeadsTo, Holds, Brings, readiness, Executes}
+use Rattle.demands.specs.StepStops.{goes, effect, Fetches, LeadsTo, Holds, Brings, readiness, Executes}
 use Rattle.demands.specs.StepStops.LeadsTo.{mapped, unmapped}
 use Rattle.demands.specs.StepStops.Holds.{ram, rom}
 
 module _ (m : Machine) (s o : List ℕ) (lines : ℕ) where
-  -- the effect of the step
-  abbrev pub effect : Effect
-  effect = effectOf (m .cpu) (m .cp0) (m .regs) (m .tlb) (read s o) lines
-
   -- the stage after the fetch, whatever the fetch came to
   abbrev pub after : Fetched → Effect
   after = begun (m .cpu) (m .cp0) (m .regs) (m .tlb) (read s o) lines
@@ -34,11 +30,11 @@ module _ (m : Machine) (s o : List ℕ) (lines : ℕ) where
   abbrev pub fetch : Where → Fetched
   fetch = wordAt (vaddr (m .cpu .pc)) (read s o)
 
-  pub at-fetch : Fetches m lines → effect ≡ after (fetch (goes m 4 (vaddr (m .cpu .pc))))
+  pub at-fetch : Fetches m lines → effect m s o lines ≡ after (fetch (goes m 4 (vaddr (m .cpu .pc))))
   unfolding effectOf
   at-fetch f = rw (eq-eqb _ _ (f .r0-zero), f .no-interrupt)
 
-  led : {x : Where} {p : PAddr} → LeadsTo x p → fetch x ≡ wordFound p (read s o p)
+  pub led : {x : Where} {p : PAddr} → LeadsTo x p → fetch x ≡ wordFound p (read s o p)
   unfolding wordAt
   led mapped = refl
   led unmapped = refl
@@ -48,13 +44,13 @@ module _ (m : Machine) (s o : List ℕ) (lines : ℕ) where
   held p ram = refl
   held p rom = refl
 
-  pub at-word : (w : ℕ) → Brings m s o lines w → effect ≡ readied (m .cpu) (m .cp0) (m .regs) (m .tlb) (read s o) lines w (readiness m w)
+  pub at-word : (w : ℕ) → Brings m s o lines w → effect m s o lines ≡ readied (m .cpu) (m .cp0) (m .regs) (m .tlb) (read s o) lines w (readiness m w)
   unfolding decoded
   at-word w b =
       at-fetch (b .fetches) ∙ ap after (led (b .leads-to)) ∙ held (b .at) (b .holds)
       ∙ ap (decoded (m .cpu) (m .cp0) (m .regs) (m .tlb) (read s o) lines) (sym (b .word))
 
-  pub at-executed : (x : Executed) (e : Executes m s o lines x) → effect ≡ executed (m .cpu) (m .cp0) (m .tlb) (read s o) lines (getD (m .regs) (rt (e .word)) 0) x
+  pub at-executed : (x : Executed) (e : Executes m s o lines x) → effect m s o lines ≡ executed (m .cpu) (m .cp0) (m .tlb) (read s o) lines (getD (m .regs) (rt (e .word)) 0) x
   unfolding readied
   at-executed x e =
       at-word (e .word) (e .brings)

@@ -1,69 +1,89 @@
--- Each useless emulator is wrong of document 01's own program, or of a call that is refused.
+-- Each useless emulator is wrong of document 01's own program, or of two with branches in a slot.
 use native.Mathlib.Omega.{arith}
 use mathlib.Core.Path.{_≡_, refl, _∙_, ap}
-use mathlib.Core.List.{[]}
 use Rattle.card.specs.declared.Machine.{Machine}
 use Rattle.card.specs.Machine.{fresh}
-use Rattle.card.specs.Run.{Whole, refusalBy, runOf}
-use Rattle.demands.specs.Call.{Call, run}
+use Rattle.card.specs.Run.{Whole}
+use Rattle.demands.specs.Given.{allBelow, Given}
 use Rattle.demands.specs.Useless.{Emulator, Right, RefusesAll, AlwaysFresh, Untouched, AllAtOnce, MadeUp, Useless}
-use Rattle.demands.proofs.Example.{atStart, program, worked}
+use Rattle.demands.proofs.Example.{atStart, program, branches, branchesLater, worked, given}
 
--- a call that is refused: RAM has no byte
-abbrev empty : Call
-empty = record { rom = []; lines = 0; budget = 1; machine = atStart; ram = [] }
+-- ---- these calls can be given
 
-empty-steps : run empty .steps ≡ 0
-unfolding runOf refusalBy
-empty-steps = refl
+one-given : Given (program 1)
+unfolding allBelow
+one-given = given _ _ (omega arith) refl
 
--- PC after a run of a right emulator
-pc-one : (f : Emulator) → Right f → f (program 1) .machine .cpu .pc ≡ 0xffffffff80000004
-pc-one f r = ap (λ (w : Whole). w .machine .cpu .pc) (r (program 1)) ∙ worked .0 .pc-left
+two-given : Given (program 2)
+unfolding allBelow
+two-given = given _ _ (omega arith) refl
 
-pc-two : (f : Emulator) → Right f → f (program 2) .machine .cpu .pc ≡ 0xffffffff80000008
-pc-two f r = ap (λ (w : Whole). w .machine .cpu .pc) (r (program 2)) ∙ worked .1 .pc-left
+early-given : Given branches
+unfolding allBelow
+early-given = given _ _ (omega arith) refl
 
-refuses-all : (f : Emulator) → RefusesAll f → Right f → ⊥
-refuses-all f p r =
-    let l = p (program 1) .0 in
-    let e : f (program 1) .stop ≡ 0 = ap (λ (w : Whole). w .stop) (r (program 1)) ∙ worked .0 .stop in
-    omega arith
+late-given : Given branchesLater
+unfolding allBelow
+late-given = given _ _ (omega arith) refl
 
-fresh-pc : fresh .cpu .pc ≡ 0xffffffffbfc00000
-unfolding fresh
-fresh-pc = refl
-
-always-fresh : (f : Emulator) → AlwaysFresh f → Right f → ⊥
-always-fresh f p r =
-    let e = pc-one f r in
-    let d : f (program 1) .machine .cpu .pc ≡ 0xffffffffbfc00000 = ap (λ (m : Machine). m .cpu .pc) (p (program 1)) ∙ fresh-pc in
-    omega arith
+-- ---- PC before and after
 
 start-pc : atStart .cpu .pc ≡ 0xffffffff80000000
 unfolding atStart
 start-pc = refl
 
-untouched : (f : Emulator) → Untouched f → Right f → ⊥
-untouched f p r =
-    let e = pc-one f r in
-    let d : f (program 1) .machine .cpu .pc ≡ 0xffffffff80000000 = ap (λ (m : Machine). m .cpu .pc) (p (program 1)) ∙ start-pc in
-    omega arith
+fresh-pc : fresh .cpu .pc ≡ 0xffffffffbfc00000
+unfolding fresh
+fresh-pc = refl
 
-all-at-once : (f : Emulator) → AllAtOnce f → Right f → ⊥
-all-at-once f p r =
-    let e = pc-one f r in
-    let d = pc-two f r in
-    let s : f (program 2) .machine .cpu .pc ≡ f (program 1) .machine .cpu .pc = ap (λ (m : Machine). m .cpu .pc) (p (program 1) 1) in
-    omega arith
+module _ (f : Emulator) (r : Right f) where
+  pc-one : f (program 1) .machine .cpu .pc ≡ 0xffffffff80000004
+  pc-one = ap (λ (w : Whole). w .machine .cpu .pc) (r (program 1) one-given) ∙ worked .one .pc-left
 
-made-up : (f : Emulator) → MadeUp f → Right f → ⊥
-made-up f p r =
-    let a : f empty .steps ≡ p .0 1 = p .1 empty in
-    let b : f (program 1) .steps ≡ p .0 1 = p .1 (program 1) in
-    let c : f empty .steps ≡ 0 = ap (λ (w : Whole). w .steps) (r empty) ∙ empty-steps in
-    let d : f (program 1) .steps ≡ 1 = ap (λ (w : Whole). w .steps) (r (program 1)) ∙ worked .0 .steps in
-    omega arith
+  pc-two : f (program 2) .machine .cpu .pc ≡ 0xffffffff80000008
+  pc-two = ap (λ (w : Whole). w .machine .cpu .pc) (r (program 2) two-given) ∙ worked .two .pc-left
+
+  refuses-all : RefusesAll f → ⊥
+  refuses-all p =
+      let l = p (program 1) one-given .0 in
+      let e : f (program 1) .stop ≡ 0 = ap (λ (w : Whole). w .stop) (r (program 1) one-given) ∙ worked .one .stop in
+      omega arith
+
+  always-fresh : AlwaysFresh f → ⊥
+  always-fresh p =
+      let e = pc-one in
+      let d : f (program 1) .machine .cpu .pc ≡ 0xffffffffbfc00000 = ap (λ (m : Machine). m .cpu .pc) (p (program 1) one-given) ∙ fresh-pc in
+      omega arith
+
+  untouched : Untouched f → ⊥
+  untouched p =
+      let e = pc-one in
+      let d : f (program 1) .machine .cpu .pc ≡ 0xffffffff80000000 = ap (λ (m : Machine). m .cpu .pc) (p (program 1) one-given) ∙ start-pc in
+      omega arith
+
+  all-at-once : AllAtOnce f → ⊥
+  all-at-once p =
+      let e = pc-one in
+      let d = pc-two in
+      let s : f (program 2) .machine .cpu .pc ≡ f (program 1) .machine .cpu .pc = ap (λ (m : Machine). m .cpu .pc) (p (program 1) 1 two-given) in
+      omega arith
+
+  made-up : MadeUp f → ⊥
+  made-up p =
+      let early = r branches early-given in
+      let late = r branchesLater late-given in
+      let a : f branches .steps ≡ p .0 3 17 = p .1 branches early-given ∙ ap (p .0 3) (ap (λ (w : Whole). w .stop) early ∙ worked .early .stop) in
+      let b : f branchesLater .steps ≡ p .0 3 17 = p .1 branchesLater late-given ∙ ap (p .0 3) (ap (λ (w : Whole). w .stop) late ∙ worked .late .stop) in
+      let c : f branches .steps ≡ 1 = ap (λ (w : Whole). w .steps) early ∙ worked .early .steps in
+      let d : f branchesLater .steps ≡ 2 = ap (λ (w : Whole). w .steps) late ∙ worked .late .steps in
+      omega arith
 
 pub useless : Useless
-useless = record { refuses-all = refuses-all; always-fresh = always-fresh; untouched = untouched; all-at-once = all-at-once; made-up = made-up }
+useless =
+    record {
+      refuses-all = λ f p r. refuses-all f r p;
+      always-fresh = λ f p r. always-fresh f r p;
+      untouched = λ f p r. untouched f r p;
+      all-at-once = λ f p r. all-at-once f r p;
+      made-up = λ f p r. made-up f r p;
+    }

@@ -4,6 +4,9 @@ pub mod Refusals
 pub mod Fields
 pub mod StepStops
 pub mod Twice
+pub mod StepRaises
+pub mod Lands
 pub mod Runs
 pub mod Range
+pub mod Given
 pub mod Useless

@@ -37,7 +37,7 @@ pub record StopsWith (c : Call) (n : ℕ) : Type 0 where
   pub go-on : GoOn c before
   pub stops : next c before .stop ≡ n
 
--- of every call: its stop is given just in its case and there is no other than these and the refusals; the steps that it counts are those that went on, at most the budget, and what it leaves is what they left
+-- of every call: its stop is given just in its case and there is no other than these and the refusals; the steps that it counts are those that went on, at most the budget; where it stops, the step after these is the one that stopped, so none is left out; and what it leaves is what they left
 pub record Runs (c : Call) : Type 0 where
   pub zero : (run c .stop ≡ 0) ↔ UsesBudget c
   pub sixteen : (run c .stop ≡ 16) ↔ StopsWith c 16
@@ -48,6 +48,7 @@ pub record Runs (c : Call) : Type 0 where
   pub within-budget : run c .steps ≤ c .budget
   pub all-used : run c .stop ≡ 0 → run c .steps ≡ c .budget
   pub counted : Accepted c → GoOn c (run c .steps)
+  pub stopped-next : Accepted c → 1 ≤ run c .stop → next c (run c .steps) .stop ≡ run c .stop
   pub machine-left : Accepted c → run c .machine ≡ after c (run c .steps) .machine
   pub ram-left : Accepted c → run c .ram ≡ after c (run c .steps) .ram
 

@@ -37,7 +37,8 @@ use Rattle.execute.specs.declared.Executed.{Executed}
 use Rattle.execute.specs.declared.Executed.the-variants.{Plain, Command}
 use Rattle.execute.specs.LoadStore.{loadAlign, storeAlign}
 use Rattle.execute.specs.Execute.{execute}
-use Rattle.effect.specs.Step.{leads}
+use Rattle.effect.specs.declared.Effect.{Effect}
+use Rattle.effect.specs.Step.{leads, effectOf}
 use Rattle.card.specs.declared.Machine.{Machine}
 use Rattle.card.specs.Step.{stepOf}
 
@@ -48,6 +49,10 @@ r0 m = getD (m .regs) 0 0
 -- where an address leads, by the machine's mode, ASID and TLB
 abbrev pub goes : Machine → ℕ → VAddr → Where
 goes m align v = leads (m .cp0) (m .tlb) align v
+
+-- the effect of the step: all that it comes to
+abbrev pub effect : Machine → List ℕ → List ℕ → ℕ → Effect
+effect m ram rom lines = effectOf (m .cpu) (m .cp0) (m .regs) (m .tlb) (read ram rom) lines
 
 -- the step comes to its fetch: r0 is 0 and no interrupt is taken (S2)
 pub record Fetches (m : Machine) (lines : ℕ) : Type 0 where

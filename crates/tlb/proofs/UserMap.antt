@@ -32,7 +32,7 @@ low-is v e l =
     omega arith
 
 -- a mapped address never leads on unmapped
-mapped-not-unmapped : (tlb : List ℕ) (asid : ℕ) (v : VAddr) (p : PAddr) → mapped tlb asid v ≡ Unmapped p → ⊥
+pub mapped-not-unmapped : (tlb : List ℕ) (asid : ℕ) (v : VAddr) (p : PAddr) → mapped tlb asid v ≡ Unmapped p → ⊥
 unfolding mapped throughFound throughSlot through
 mapped-not-unmapped tlb asid v p e = go (lookup tlb asid v) e
   where

@@ -23,8 +23,8 @@ use Rattle.execute.specs.Arithmetic.{trapping, arithmetic}
 use Rattle.execute.specs.Multiply.{toHiLo, multiply}
 use Rattle.execute.specs.Shifts.{shift}
 use Rattle.execute.specs.LoadStore.{finish}
-use Rattle.effect.specs.Effect.{turned, raised}
-use Rattle.effect.specs.Access.{sending, sent}
+use Rattle.access.specs.Effect.{turned, raised}
+use Rattle.access.specs.Access.{sending, sent}
 use Rattle.effect.specs.Step.{asked}
 use Rattle.card.specs.Machine.{freshSlots, fresh}
 use Rattle.card.specs.Step.{putReg}

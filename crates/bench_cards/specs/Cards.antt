@@ -29,14 +29,14 @@ use Rattle.decode.specs.declared.MultiplyOp.the-variants.{DMULTU, DIV}
 use Rattle.decode.specs.declared.ShiftOp.the-variants.{SRA}
 use Rattle.decode.specs.declared.LoadOp.the-variants.{LB, LBU, LWL}
 use Rattle.decode.specs.declared.StoreOp.the-variants.{SC}
-use Rattle.execute.specs.declared.Act.the-variants.{Write, HiLo, Raise}
+use Rattle.flow.specs.declared.Act.the-variants.{Write, HiLo, Raise}
 use Rattle.execute.specs.Arithmetic.{arithmetic}
 use Rattle.execute.specs.Multiply.{multiply}
 use Rattle.execute.specs.Shifts.{shift}
 use Rattle.execute.specs.LoadStore.{finish}
 use Rattle.effect.specs.declared.Cpu.{Cpu}
-use Rattle.effect.specs.declared.Effect.{Effect}
-use Rattle.effect.specs.Access.{sent}
+use Rattle.access.specs.declared.Effect.{Effect}
+use Rattle.access.specs.Access.{sent}
 use Rattle.effect.specs.Step.{asked}
 use Rattle.card.specs.Machine.{fresh}
 use Rattle.card.specs.Step.{putReg}

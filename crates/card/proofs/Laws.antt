@@ -12,7 +12,7 @@ use Rattle.memory.specs.Stores.{putBytes}
 use Rattle.tlb.specs.Slot.{putSlot}
 use Rattle.cp0.specs.declared.Cp0.{Cp0}
 use Rattle.effect.specs.declared.Cpu.{Cpu}
-use Rattle.effect.specs.declared.Effect.{Effect}
+use Rattle.access.specs.declared.Effect.{Effect}
 use Rattle.effect.specs.Step.{effectOf}
 use Rattle.effect.specs.After.{cpuAfter, cp0After}
 use Rattle.card.specs.declared.Machine.{Machine}

@@ -8,7 +8,7 @@ use Rattle.promise.specs.Pick.{pick}
 use Rattle.memory.specs.Memory.{read}
 use Rattle.memory.specs.Stores.{putBytes}
 use Rattle.tlb.specs.Slot.{putSlot}
-use Rattle.effect.specs.declared.Effect.{Effect}
+use Rattle.access.specs.declared.Effect.{Effect}
 use Rattle.effect.specs.Step.{effectOf}
 use Rattle.effect.specs.After.{cpuAfter, cp0After}
 use Rattle.card.specs.declared.Machine.{Machine}

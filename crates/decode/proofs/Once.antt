@@ -3,12 +3,6 @@ use mathlib.Core.Path.{refl}
 use Rattle.promise.specs.Unique.{Unique, same}
 use Rattle.decode.proofs.decode.Kinds as decode-kinds
 use Rattle.decode.proofs.decode.Reads as decode-reads
-use Rattle.decode.proofs.usability.ready.Kinds as ready-kinds
-use Rattle.decode.proofs.usability.ready.Reads as ready-reads
-use Rattle.decode.proofs.usability.is_cp0.Kinds as is-cp0-kinds
-use Rattle.decode.proofs.usability.is_cp0.Reads as is-cp0-reads
-use Rattle.decode.proofs.usability.is_branch.Kinds as is-branch-kinds
-use Rattle.decode.proofs.usability.is_branch.Reads as is-branch-reads
 use Rattle.decode.proofs.fields.opcode.Kinds as opcode-kinds
 use Rattle.decode.proofs.fields.opcode.Reads as opcode-reads
 use Rattle.decode.proofs.fields.rs.Kinds as rs-kinds
@@ -59,24 +53,6 @@ use Rattle.decode.proofs.cop0.cop0.Kinds as cop0-kinds
 use Rattle.decode.proofs.cop0.cop0.Reads as cop0-reads
 use Rattle.decode.proofs.instructions.instruction.Kinds as instruction-kinds
 use Rattle.decode.proofs.instructions.instruction.Reads as instruction-reads
-use Rattle.decode.proofs.doubleword.double_load.Kinds as double-load-kinds
-use Rattle.decode.proofs.doubleword.double_load.Reads as double-load-reads
-use Rattle.decode.proofs.doubleword.double_store.Kinds as double-store-kinds
-use Rattle.decode.proofs.doubleword.double_store.Reads as double-store-reads
-use Rattle.decode.proofs.doubleword.double_arithmetic.Kinds as double-arithmetic-kinds
-use Rattle.decode.proofs.doubleword.double_arithmetic.Reads as double-arithmetic-reads
-use Rattle.decode.proofs.doubleword.double_immediate.Kinds as double-immediate-kinds
-use Rattle.decode.proofs.doubleword.double_immediate.Reads as double-immediate-reads
-use Rattle.decode.proofs.doubleword.double_shift.Kinds as double-shift-kinds
-use Rattle.decode.proofs.doubleword.double_shift.Reads as double-shift-reads
-use Rattle.decode.proofs.doubleword.double_shift_variable.Kinds as double-shift-variable-kinds
-use Rattle.decode.proofs.doubleword.double_shift_variable.Reads as double-shift-variable-reads
-use Rattle.decode.proofs.doubleword.double_multiply.Kinds as double-multiply-kinds
-use Rattle.decode.proofs.doubleword.double_multiply.Reads as double-multiply-reads
-use Rattle.decode.proofs.doubleword.double_move.Kinds as double-move-kinds
-use Rattle.decode.proofs.doubleword.double_move.Reads as double-move-reads
-use Rattle.decode.proofs.doubleword.is_double.Kinds as is-double-kinds
-use Rattle.decode.proofs.doubleword.is_double.Reads as is-double-reads
 use Rattle.decode.proofs.classes.load.Kinds as load-kinds
 use Rattle.decode.proofs.classes.load.Reads as load-reads
 use Rattle.decode.proofs.classes.store.Kinds as store-kinds
@@ -112,15 +88,6 @@ use Rattle.decode.proofs.classes.special.Reads as special-reads
 
 pub decode-once : Unique decode-kinds.ps decode-kinds.r decode-reads.Pre decode-reads.Post
 decode-once κs a p z₁ z₂ ws₁ ws₂ h₁ h₂ = (same h₁ h₂, refl)
-
-pub ready-once : Unique ready-kinds.ps ready-kinds.r ready-reads.Pre ready-reads.Post
-ready-once κs a p z₁ z₂ ws₁ ws₂ h₁ h₂ = (same h₁ h₂, refl)
-
-pub is-cp0-once : Unique is-cp0-kinds.ps is-cp0-kinds.r is-cp0-reads.Pre is-cp0-reads.Post
-is-cp0-once κs a p z₁ z₂ ws₁ ws₂ h₁ h₂ = (same h₁ h₂, refl)
-
-pub is-branch-once : Unique is-branch-kinds.ps is-branch-kinds.r is-branch-reads.Pre is-branch-reads.Post
-is-branch-once κs a p z₁ z₂ ws₁ ws₂ h₁ h₂ = (same h₁ h₂, refl)
 
 pub opcode-once : Unique opcode-kinds.ps opcode-kinds.r opcode-reads.Pre opcode-reads.Post
 opcode-once κs a p z₁ z₂ ws₁ ws₂ h₁ h₂ = (same h₁ h₂, refl)
@@ -197,33 +164,6 @@ cop0-once κs a p z₁ z₂ ws₁ ws₂ h₁ h₂ = (same h₁ h₂, refl)
 
 pub instruction-once : Unique instruction-kinds.ps instruction-kinds.r instruction-reads.Pre instruction-reads.Post
 instruction-once κs a p z₁ z₂ ws₁ ws₂ h₁ h₂ = (same h₁ h₂, refl)
-
-pub double-load-once : Unique double-load-kinds.ps double-load-kinds.r double-load-reads.Pre double-load-reads.Post
-double-load-once κs a p z₁ z₂ ws₁ ws₂ h₁ h₂ = (same h₁ h₂, refl)
-
-pub double-store-once : Unique double-store-kinds.ps double-store-kinds.r double-store-reads.Pre double-store-reads.Post
-double-store-once κs a p z₁ z₂ ws₁ ws₂ h₁ h₂ = (same h₁ h₂, refl)
-
-pub double-arithmetic-once : Unique double-arithmetic-kinds.ps double-arithmetic-kinds.r double-arithmetic-reads.Pre double-arithmetic-reads.Post
-double-arithmetic-once κs a p z₁ z₂ ws₁ ws₂ h₁ h₂ = (same h₁ h₂, refl)
-
-pub double-immediate-once : Unique double-immediate-kinds.ps double-immediate-kinds.r double-immediate-reads.Pre double-immediate-reads.Post
-double-immediate-once κs a p z₁ z₂ ws₁ ws₂ h₁ h₂ = (same h₁ h₂, refl)
-
-pub double-shift-once : Unique double-shift-kinds.ps double-shift-kinds.r double-shift-reads.Pre double-shift-reads.Post
-double-shift-once κs a p z₁ z₂ ws₁ ws₂ h₁ h₂ = (same h₁ h₂, refl)
-
-pub double-shift-variable-once : Unique double-shift-variable-kinds.ps double-shift-variable-kinds.r double-shift-variable-reads.Pre double-shift-variable-reads.Post
-double-shift-variable-once κs a p z₁ z₂ ws₁ ws₂ h₁ h₂ = (same h₁ h₂, refl)
-
-pub double-multiply-once : Unique double-multiply-kinds.ps double-multiply-kinds.r double-multiply-reads.Pre double-multiply-reads.Post
-double-multiply-once κs a p z₁ z₂ ws₁ ws₂ h₁ h₂ = (same h₁ h₂, refl)
-
-pub double-move-once : Unique double-move-kinds.ps double-move-kinds.r double-move-reads.Pre double-move-reads.Post
-double-move-once κs a p z₁ z₂ ws₁ ws₂ h₁ h₂ = (same h₁ h₂, refl)
-
-pub is-double-once : Unique is-double-kinds.ps is-double-kinds.r is-double-reads.Pre is-double-reads.Post
-is-double-once κs a p z₁ z₂ ws₁ ws₂ h₁ h₂ = (same h₁ h₂, refl)
 
 pub load-once : Unique load-kinds.ps load-kinds.r load-reads.Pre load-reads.Post
 load-once κs a p z₁ z₂ ws₁ ws₂ h₁ h₂ = (same h₁ h₂, refl)

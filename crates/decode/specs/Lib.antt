@@ -3,7 +3,5 @@ pub mod Fields
 pub mod Maps
 pub mod Decode
 pub mod Numbers
-pub mod Doubleword
-pub mod Ready
 pub mod Laws
 pub mod Words

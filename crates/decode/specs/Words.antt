@@ -1,17 +1,13 @@
 -- Some words and what they are, by computation: the two of document 01's image, and one for each corner of the rules.
 use mathlib.Core.Path.{_≡_, refl}
-use mathlib.Core.Bool.{true, false}
 use Rattle.decode.specs.declared.Decoded.the-variants.{Is, Coprocessor, ReservedCop0, Reserved}
 use Rattle.decode.specs.declared.Instr.the-variants.{Arithmetic, ArithmeticImmediate, Move, Eret, Special}
 use Rattle.decode.specs.declared.ArithmeticOp.the-variants.{ADDU}
 use Rattle.decode.specs.declared.ArithmeticImmediateOp.the-variants.{ADDIU}
 use Rattle.decode.specs.declared.MoveOp.the-variants.{MFC0}
 use Rattle.decode.specs.declared.SpecialOp.the-variants.{SYNC}
-use Rattle.decode.specs.declared.Ready.the-variants.{Go, Unusable, InSlot}
-use Rattle.decode.specs.declared.Ready.the-variants as Ready
 use Rattle.decode.specs.Maps.{majors, specials, regimms}
 use Rattle.decode.specs.Decode.{decode, decodeBy, entryIn, byMajor, cop0, operation, move}
-use Rattle.decode.specs.Ready.{ready, reservedCop0, usable, allowed, inPlace}
 
 -- the image's two instructions, ADDIU r8, r0, 5 and ADDU r9, r8, r8 (I16)
 image : (decode 0x24080005 ≡ Is (ArithmeticImmediate ADDIU 0 8 5)) × (decode 0x01084821 ≡ Is (Arithmetic ADDU 8 8 9))
@@ -27,8 +23,3 @@ system = (refl, refl, refl, refl)
 none : (decode 0x44000000 ≡ Coprocessor 1) × (decode 0xf8000000 ≡ Coprocessor 2) × (decode 0x4c000000 ≡ Reserved) × (decode 0xcc000000 ≡ Reserved) × (decode 0xec000000 ≡ Reserved) × (decode 0x70000000 ≡ Reserved) × (decode 0x0000000a ≡ Reserved)
 unfolding decodeBy entryIn byMajor majors specials
 none = (refl, refl, refl, refl, refl, refl, refl)
-
--- ERET in a slot: unusable in User mode without CU0, else stop 17; DMFC0 in User mode: unusable without CU0, else reserved (S6, T21, D11, N19)
-order : (ready true false true (decode 0x42000018) ≡ Unusable 0) × (ready true true true (decode 0x42000018) ≡ InSlot) × (ready true false false (decode 0x40206000) ≡ Unusable 0) × (ready true true false (decode 0x40206000) ≡ Ready.Reserved) × (ready false false false (decode 0x42000018) ≡ Go Eret)
-unfolding decodeBy entryIn byMajor majors cop0 operation move ready usable allowed inPlace
-order = (refl, refl, refl, refl, refl)

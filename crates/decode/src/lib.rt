@@ -1,4 +1,4 @@
-// Decoding: from the 32 bits of a word to an instruction by its manual name, and what it needs to be usable.
+// Decoding: from the 32 bits of a word to an instruction by its manual name.
 ghost use mathlib.Core.Path.{_≡_};
 ghost use Rattle.decode.specs.Decode as D;
 ghost use Rattle.decode.specs.Maps.{mips3};
@@ -10,8 +10,6 @@ mod operations; // an operation by its number in its class
 mod classes; // the instruction of each class
 mod cop0; // COP0 words
 mod instructions; // an instruction by its entry's number
-mod doubleword; // the doubleword instructions
-pub mod usability; // whether the step may go on with it
 
 use maps::MAJOR;
 use maps::REGIMM;
@@ -292,14 +290,6 @@ pub enum Decoded {
     Coprocessor(u8),
     ReservedCop0,
     Reserved,
-}
-
-// Whether the step may go on to execute it: the instruction; Coprocessor Unusable with its unit; Reserved Instruction; stop 17.
-pub enum Ready {
-    Go(Instr),
-    Unusable(u8),
-    Reserved,
-    InSlot,
 }
 
 // The number of a word's entry: SPECIAL's by the function, REGIMM's by the rt field, any other its own.

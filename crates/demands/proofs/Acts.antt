@@ -36,8 +36,8 @@ use Rattle.decode.specs.declared.SpecialOp.{SpecialOp}
 use Rattle.decode.specs.declared.SpecialOp.the-variants as special-op
 use Rattle.decode.specs.declared.MoveOp.{MoveOp}
 use Rattle.decode.specs.declared.MoveOp.the-variants as move-op
-use Rattle.execute.specs.declared.Act.{Act}
-use Rattle.execute.specs.declared.Act.the-variants as act
+use Rattle.flow.specs.declared.Act.{Act}
+use Rattle.flow.specs.declared.Act.the-variants as act
 use Rattle.execute.specs.declared.Command.{Command}
 use Rattle.execute.specs.declared.Command.the-variants as command
 use Rattle.execute.specs.declared.Executed.{Executed}
@@ -46,8 +46,8 @@ use Rattle.execute.specs.Arithmetic.{trapping, arithmetic, arithmeticImmediate}
 use Rattle.execute.specs.Logic.{logic, logicImmediate}
 use Rattle.execute.specs.Shifts.{shift, shiftVariable}
 use Rattle.execute.specs.Multiply.{toHiLo, multiply, moveHiLo}
-use Rattle.execute.specs.Branches.{plain, likely, branch}
-use Rattle.execute.specs.Jumps.{jump, jumpRegister}
+use Rattle.flow.specs.Branches.{plain, likely, branch}
+use Rattle.flow.specs.Jumps.{jump, jumpRegister}
 use Rattle.execute.specs.Traps as traps
 use Rattle.execute.specs.Traps.{trapIf, trapImmediate}
 use Rattle.execute.specs.LoadStore as memory

@@ -9,11 +9,11 @@ use Rattle.decode.specs.declared.Instr.{Instr}
 use Rattle.decode.specs.declared.Instr.the-variants as instr
 use Rattle.decode.specs.declared.Decoded.{Decoded}
 use Rattle.decode.specs.declared.Decoded.the-variants as decoded
-use Rattle.decode.specs.declared.Ready.{Ready}
-use Rattle.decode.specs.declared.Ready.the-variants as ready
-use Rattle.decode.specs.Doubleword.{isDouble}
-use Rattle.decode.specs.Ready as rules
-use Rattle.decode.specs.Ready.{isCp0, isBranch, locked, inPlace, allowed, usable, reservedCop0}
+use Rattle.usability.specs.declared.Ready.{Ready}
+use Rattle.usability.specs.declared.Ready.the-variants as ready
+use Rattle.usability.specs.Doubleword.{isDouble}
+use Rattle.usability.specs.Ready as rules
+use Rattle.usability.specs.Ready.{isCp0, isBranch, locked, inPlace, allowed, usable, reservedCop0}
 use Rattle.demands.specs.StepRaises.{Unusable, IsReserved}
 use Rattle.demands.specs.StepRaises.Unusable.{coprocessor, cp0, code-unusable}
 use Rattle.demands.specs.StepRaises.IsReserved.{no-instruction, code-reserved, doubleword}

@@ -23,12 +23,12 @@ use Rattle.cp0.specs.Range.{randomInRange, statusInRange, configInRange, entrie
 use Rattle.cp0.specs.Tick.{counted, timed, drawn, ended}
 use Rattle.decode.specs.Maps.{majors, specials, regimms}
 use Rattle.decode.specs.Decode.{byMajor, entryIn, decodeBy}
-use Rattle.decode.specs.Ready.{inPlace, allowed, usable, ready}
+use Rattle.usability.specs.Ready.{inPlace, allowed, usable, ready}
 use Rattle.execute.specs.Arithmetic.{arithmetic, arithmeticImmediate}
-use Rattle.execute.specs.Branches.{equal, branchTarget, plain, branch}
+use Rattle.flow.specs.Branches.{equal, branchTarget, plain, branch}
 use Rattle.execute.specs.Execute.{execute}
-use Rattle.effect.specs.Effect.{wrote, stopped}
-use Rattle.effect.specs.Fetch.{wordFound, wordAt}
+use Rattle.access.specs.Effect.{wrote, stopped}
+use Rattle.access.specs.Fetch.{wordFound, wordAt}
 use Rattle.effect.specs.Step.{asked, executed, readied, decoded, begun, effectOf}
 use Rattle.effect.specs.After.{cpuOf, onward, pending, cpuAfter, cp0After}
 use Rattle.card.specs.declared.Machine.{Machine}

@@ -9,8 +9,8 @@ use Rattle.memory.specs.declared.PAddr.{PAddr}
 use Rattle.memory.specs.declared.Store.the-variants.{Write}
 use Rattle.memory.specs.declared.Put.the-variants.{Done, BusError}
 use Rattle.memory.specs.Stores.{lands, putBytes, putAnswer}
-use Rattle.effect.specs.declared.Effect.{Effect}
-use Rattle.effect.specs.Effect.{turned, raised, stopped}
+use Rattle.access.specs.declared.Effect.{Effect}
+use Rattle.access.specs.Effect.{turned, raised, stopped}
 use Rattle.card.specs.declared.Machine.{Machine}
 use Rattle.card.specs.Step.{apply, stepOf}
 use Rattle.demands.specs.StepStops.{effect}

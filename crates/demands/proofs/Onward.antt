@@ -30,11 +30,11 @@ use Rattle.decode.specs.declared.LoadOp.the-variants as load
 use Rattle.decode.specs.declared.StoreOp.{StoreOp}
 use Rattle.decode.specs.declared.StoreOp.the-variants as store
 use Rattle.execute.specs.LoadStore.{storeAlign, goesOut}
-use Rattle.effect.specs.declared.Turn.{Turn}
-use Rattle.effect.specs.declared.Turn.the-variants as turn
-use Rattle.effect.specs.declared.Effect.{Effect}
-use Rattle.effect.specs.Effect.{effects}
-use Rattle.effect.specs.Access.{linking, ifLinked, sending}
+use Rattle.access.specs.declared.Turn.{Turn}
+use Rattle.access.specs.declared.Turn.the-variants as turn
+use Rattle.access.specs.declared.Effect.{Effect}
+use Rattle.access.specs.Effect.{effects}
+use Rattle.access.specs.Access.{linking, ifLinked, sending}
 
 -- the turn is the entry of an exception
 abbrev pub entering : Turn → Bool

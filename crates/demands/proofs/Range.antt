@@ -42,24 +42,24 @@ use Rattle.decode.specs.declared.StoreOp.{StoreOp}
 use Rattle.decode.specs.declared.StoreOp.the-variants as store
 use Rattle.decode.specs.declared.TlbOp.{TlbOp}
 use Rattle.decode.specs.declared.TlbOp.the-variants.{TLBR, TLBWI, TLBWR, TLBP}
-use Rattle.decode.specs.declared.Ready.{Ready}
-use Rattle.decode.specs.declared.Ready.the-variants.{Go, Unusable, Reserved, InSlot}
+use Rattle.usability.specs.declared.Ready.{Ready}
+use Rattle.usability.specs.declared.Ready.the-variants.{Go, Unusable, Reserved, InSlot}
 use Rattle.decode.specs.Decode.{decode}
-use Rattle.decode.specs.Ready.{ready}
-use Rattle.execute.specs.declared.Act.{Act}
-use Rattle.execute.specs.declared.Act.the-variants as act
+use Rattle.usability.specs.Ready.{ready}
+use Rattle.flow.specs.declared.Act.{Act}
+use Rattle.flow.specs.declared.Act.the-variants as act
 use Rattle.execute.specs.declared.Command.{Command}
 use Rattle.execute.specs.declared.Command.the-variants as command
 use Rattle.execute.specs.declared.Executed.{Executed}
 use Rattle.execute.specs.declared.Executed.the-variants as done
 use Rattle.effect.specs.declared.Cpu.{Cpu}
-use Rattle.effect.specs.declared.Turn.{Turn}
-use Rattle.effect.specs.declared.Turn.the-variants as turn
-use Rattle.effect.specs.declared.Fetched.{Fetched}
-use Rattle.effect.specs.declared.Fetched.the-variants as fetch
-use Rattle.effect.specs.declared.Effect.{Effect}
-use Rattle.effect.specs.Effect.{effects, turned, wrote, raised, stopped}
-use Rattle.effect.specs.Access.{got, loaded, sending, sent, saved}
+use Rattle.access.specs.declared.Turn.{Turn}
+use Rattle.access.specs.declared.Turn.the-variants as turn
+use Rattle.access.specs.declared.Fetched.{Fetched}
+use Rattle.access.specs.declared.Fetched.the-variants as fetch
+use Rattle.access.specs.declared.Effect.{Effect}
+use Rattle.access.specs.Effect.{effects, turned, wrote, raised, stopped}
+use Rattle.access.specs.Access.{got, loaded, sending, sent, saved}
 use Rattle.effect.specs.Step as step
 use Rattle.effect.specs.Step.{moved, fromSlot, fromProbe, tlbDone, movedTo, asked, commanded, executed, readied, begun, fetched, effectOf}
 use Rattle.demands.proofs.Writes.{goes-small}

@@ -12,9 +12,9 @@ use Rattle.tlb.specs.declared.Where.{Where}
 use Rattle.tlb.specs.Translate.{vaddr}
 use Rattle.decode.specs.Fields.{rt}
 use Rattle.execute.specs.declared.Executed.{Executed}
-use Rattle.effect.specs.declared.Fetched.{Fetched}
-use Rattle.effect.specs.declared.Effect.{Effect}
-use Rattle.effect.specs.Fetch.{wordFound, wordAt}
+use Rattle.access.specs.declared.Fetched.{Fetched}
+use Rattle.access.specs.declared.Effect.{Effect}
+use Rattle.access.specs.Fetch.{wordFound, wordAt}
 use Rattle.effect.specs.Step.{executed, readied, decoded, begun, effectOf}
 use Rattle.card.specs.declared.Machine.{Machine}
 use Rattle.demands.specs.StepStops.{goes, effect, Fetches, LeadsTo, Holds, Brings, readiness, Executes}

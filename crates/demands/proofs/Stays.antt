@@ -18,9 +18,9 @@ use Rattle.cp0.specs.declared.Cp0.{Cp0}
 use Rattle.cp0.specs.Range.{cp0InRange}
 use Rattle.cp0.proofs.InRange.{split, join}
 use Rattle.effect.specs.declared.Cpu.{Cpu}
-use Rattle.effect.specs.declared.Turn.{Turn}
-use Rattle.effect.specs.declared.Turn.the-variants as turn
-use Rattle.effect.specs.declared.Effect.{Effect}
+use Rattle.access.specs.declared.Turn.{Turn}
+use Rattle.access.specs.declared.Turn.the-variants as turn
+use Rattle.access.specs.declared.Effect.{Effect}
 use Rattle.effect.specs.After.{onward, pending, arrived, cpuAfter}
 use Rattle.card.specs.declared.Machine.{Machine}
 use Rattle.card.specs.Machine.{cpuInRange, inRange}

@@ -18,11 +18,11 @@ use Rattle.cp0.specs.declared.Exception.{Exception}
 use Rattle.cp0.specs.declared.Exception.the-variants.{DBE}
 use Rattle.decode.specs.declared.LoadOp.{LoadOp}
 use Rattle.decode.specs.declared.StoreOp.{StoreOp}
-use Rattle.effect.specs.declared.Turn.the-variants.{Enter}
-use Rattle.effect.specs.declared.Effect.{Effect}
-use Rattle.effect.specs.Effect.{turned, raised, stopped}
-use Rattle.effect.specs.Access.{got, loaded, sent, saved}
-use Rattle.effect.specs.Fetch.{wordFound, wordAt}
+use Rattle.access.specs.declared.Turn.the-variants.{Enter}
+use Rattle.access.specs.declared.Effect.{Effect}
+use Rattle.access.specs.Effect.{turned, raised, stopped}
+use Rattle.access.specs.Access.{got, loaded, sent, saved}
+use Rattle.access.specs.Fetch.{wordFound, wordAt}
 use Rattle.effect.specs.Step.{asked, executed, readied, begun, effectOf}
 use Rattle.effect.specs.After.{cpuAfter, cp0After}
 use Rattle.card.specs.declared.Machine.{Machine}

@@ -9,11 +9,11 @@ use Rattle.memory.specs.Memory.{read}
 use Rattle.memory.specs.Stores.{putBytes}
 use Rattle.tlb.specs.Slot.{putSlot}
 use Rattle.cp0.specs.declared.Exception.{Exception}
-use Rattle.decode.specs.declared.Ready.the-variants.{InSlot}
-use Rattle.effect.specs.declared.Effect.{Effect}
-use Rattle.effect.specs.Effect.{turned, raised, stopped}
-use Rattle.effect.specs.Access.{loaded, saved}
-use Rattle.effect.specs.Fetch.{wordAt}
+use Rattle.usability.specs.declared.Ready.the-variants.{InSlot}
+use Rattle.access.specs.declared.Effect.{Effect}
+use Rattle.access.specs.Effect.{turned, raised, stopped}
+use Rattle.access.specs.Access.{loaded, saved}
+use Rattle.access.specs.Fetch.{wordAt}
 use Rattle.effect.specs.Step.{fromProbe, tlbDone, movedTo, asked, commanded, executed, readied, begun, effectOf}
 use Rattle.effect.specs.After.{cpuAfter, cp0After}
 use Rattle.card.specs.declared.Machine.{Machine}

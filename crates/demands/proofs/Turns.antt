@@ -18,11 +18,11 @@ use Rattle.cp0.proofs.KeepsRange.{linked-in-range, probed-in-range, returned-in
 use Rattle.cp0.proofs.KeepsRandom.{ended-in-range}
 use Rattle.cp0.proofs.KeepsMoves.{moved-in-range}
 use Rattle.cp0.proofs.KeepsSlots.{slot-read-in-range}
-use Rattle.effect.specs.declared.Turn.{Turn}
-use Rattle.effect.specs.declared.Turn.the-variants as turn
+use Rattle.access.specs.declared.Turn.{Turn}
+use Rattle.access.specs.declared.Turn.the-variants as turn
 use Rattle.decode.specs.declared.LoadOp.{LoadOp}
 use Rattle.decode.specs.declared.LoadOp.the-variants as load
-use Rattle.effect.specs.Access.{linking}
+use Rattle.access.specs.Access.{linking}
 use Rattle.effect.specs.After.{cp0After}
 
 -- a turn that leaves CP0 in range

@@ -34,21 +34,21 @@ use Rattle.decode.specs.declared.LoadOp.{LoadOp}
 use Rattle.decode.specs.declared.StoreOp.{StoreOp}
 use Rattle.decode.specs.declared.TlbOp.{TlbOp}
 use Rattle.decode.specs.declared.TlbOp.the-variants.{TLBR, TLBWI, TLBWR, TLBP}
-use Rattle.decode.specs.declared.Ready.{Ready}
-use Rattle.decode.specs.declared.Ready.the-variants.{Go, Unusable, Reserved, InSlot}
+use Rattle.usability.specs.declared.Ready.{Ready}
+use Rattle.usability.specs.declared.Ready.the-variants.{Go, Unusable, Reserved, InSlot}
 use Rattle.decode.specs.Decode.{decode}
-use Rattle.execute.specs.declared.Act.{Act}
-use Rattle.execute.specs.declared.Act.the-variants as act
+use Rattle.flow.specs.declared.Act.{Act}
+use Rattle.flow.specs.declared.Act.the-variants as act
 use Rattle.execute.specs.declared.Command.{Command}
 use Rattle.execute.specs.declared.Command.the-variants as command
 use Rattle.execute.specs.declared.Executed.{Executed}
 use Rattle.execute.specs.declared.Executed.the-variants as done
 use Rattle.execute.specs.LoadStore.{loadAlign, storeAlign}
-use Rattle.effect.specs.declared.Turn.{Turn}
-use Rattle.effect.specs.declared.Effect.{Effect}
-use Rattle.effect.specs.Effect.{effects, turned, wrote, raised, stopped}
-use Rattle.effect.specs.Access.{got, loaded, sent, saved}
-use Rattle.effect.specs.Fetch.{wordFound, wordAt}
+use Rattle.access.specs.declared.Turn.{Turn}
+use Rattle.access.specs.declared.Effect.{Effect}
+use Rattle.access.specs.Effect.{effects, turned, wrote, raised, stopped}
+use Rattle.access.specs.Access.{got, loaded, sent, saved}
+use Rattle.access.specs.Fetch.{wordFound, wordAt}
 use Rattle.effect.specs.Step as step
 use Rattle.effect.specs.Step.{fromSlot, fromProbe, tlbDone, movedTo, asked, commanded, executed, readied, begun, effectOf}
 use Rattle.card.specs.declared.Machine.{Machine}

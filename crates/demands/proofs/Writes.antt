@@ -10,13 +10,13 @@ use Rattle.decode.specs.declared.Instr.{Instr}
 use Rattle.decode.specs.declared.Instr.the-variants as instr
 use Rattle.decode.specs.declared.Decoded.{Decoded}
 use Rattle.decode.specs.declared.Decoded.the-variants as decoded
-use Rattle.decode.specs.declared.Ready.the-variants.{Go}
+use Rattle.usability.specs.declared.Ready.the-variants.{Go}
 use Rattle.decode.specs.Fields.{rs, rt, rd}
 use Rattle.decode.specs.Maps.{Entry, mips3}
 use Rattle.decode.specs.Maps.Entry.{reserved, COP0, CP1, CP2, CACHE, load, store, arithmetic, arithmeticI, logic, logicI, shift, shiftV, multiply, hiLo, branch, jump, jumpR, trap, trapI, special}
 use Rattle.decode.specs.Decode.{move, operation, cop0, instruction, entryIn, decodeBy, decode}
-use Rattle.decode.specs.Doubleword.{isDouble}
-use Rattle.decode.specs.Ready.{isCp0, isBranch, locked, inPlace, allowed, usable, reservedCop0, ready}
+use Rattle.usability.specs.Doubleword.{isDouble}
+use Rattle.usability.specs.Ready.{isCp0, isBranch, locked, inPlace, allowed, usable, reservedCop0, ready}
 
 -- the register that an instruction may write, besides register 31
 abbrev pub target : Instr → ℕ

@@ -22,13 +22,13 @@ use Rattle.decode.specs.declared.Decoded.{Decoded}
 use Rattle.decode.specs.declared.Decoded.the-variants.{Is, Coprocessor, ReservedCop0, Reserved}
 use Rattle.decode.specs.declared.LoadOp.{LoadOp}
 use Rattle.decode.specs.declared.StoreOp.{StoreOp}
-use Rattle.decode.specs.Doubleword.{isDouble}
+use Rattle.usability.specs.Doubleword.{isDouble}
 use Rattle.decode.specs.Decode.{decode}
-use Rattle.decode.specs.Ready.{isCp0, locked}
-use Rattle.execute.specs.declared.Act.the-variants.{Load, Store, Raise}
+use Rattle.usability.specs.Ready.{isCp0, locked}
+use Rattle.flow.specs.declared.Act.the-variants.{Load, Store, Raise}
 use Rattle.execute.specs.declared.Executed.the-variants.{Plain}
 use Rattle.execute.specs.LoadStore.{loadAlign, storeAlign}
-use Rattle.effect.specs.declared.Turn.the-variants.{Enter}
+use Rattle.access.specs.declared.Turn.the-variants.{Enter}
 use Rattle.effect.specs.After.{cpuAfter, cp0After}
 use Rattle.card.specs.declared.Machine.{Machine}
 use Rattle.card.specs.Machine.{machine}

@@ -23,21 +23,21 @@ use Rattle.cp0.specs.Status.{CU0, user, interrupted}
 use Rattle.cp0.specs.Moves.{checkMove}
 use Rattle.decode.specs.declared.Instr.{Instr}
 use Rattle.decode.specs.declared.Decoded.the-variants.{Is}
-use Rattle.decode.specs.declared.Ready.{Ready}
-use Rattle.decode.specs.declared.Ready.the-variants.{Go}
+use Rattle.usability.specs.declared.Ready.{Ready}
+use Rattle.usability.specs.declared.Ready.the-variants.{Go}
 use Rattle.decode.specs.declared.LoadOp.{LoadOp}
 use Rattle.decode.specs.declared.StoreOp.{StoreOp}
 use Rattle.decode.specs.declared.TlbOp.the-variants.{TLBP}
 use Rattle.decode.specs.Fields.{rs, rt}
 use Rattle.decode.specs.Decode.{decode}
-use Rattle.decode.specs.Ready.{isCp0, isBranch, locked, ready}
-use Rattle.execute.specs.declared.Act.the-variants.{Load, Store}
+use Rattle.usability.specs.Ready.{isCp0, isBranch, locked, ready}
+use Rattle.flow.specs.declared.Act.the-variants.{Load, Store}
 use Rattle.execute.specs.declared.Command.the-variants.{MoveTo, Tlb}
 use Rattle.execute.specs.declared.Executed.{Executed}
 use Rattle.execute.specs.declared.Executed.the-variants.{Plain, Command}
 use Rattle.execute.specs.LoadStore.{loadAlign, storeAlign}
 use Rattle.execute.specs.Execute.{execute}
-use Rattle.effect.specs.declared.Effect.{Effect}
+use Rattle.access.specs.declared.Effect.{Effect}
 use Rattle.effect.specs.Step.{leads, effectOf}
 use Rattle.card.specs.declared.Machine.{Machine}
 use Rattle.card.specs.Step.{stepOf}

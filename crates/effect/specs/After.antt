@@ -8,10 +8,10 @@ use Rattle.cp0.specs.Registers.{Wired, linked, slotRead, probed}
 use Rattle.cp0.specs.Moves.{moveIn}
 use Rattle.cp0.specs.Exceptions.{entered, vector, returned, returnTo}
 use Rattle.cp0.specs.Tick.{ended}
-use Rattle.execute.specs.Address.{slotAddress, afterSlot}
+use Rattle.flow.specs.Address.{slotAddress, afterSlot}
 use Rattle.effect.specs.declared.Cpu.{Cpu}
-use Rattle.effect.specs.declared.Turn.{Turn}
-use Rattle.effect.specs.declared.Turn.the-variants.{Next, Branch, Skip, HiLo, Link, Enter, Move, Read, Probed, Eret, Stay}
+use Rattle.access.specs.declared.Turn.{Turn}
+use Rattle.access.specs.declared.Turn.the-variants.{Next, Branch, Skip, HiLo, Link, Enter, Move, Read, Probed, Eret, Stay}
 
 -- a Cpu, field by field
 abbrev pub cpuOf : ℕ → Bool → ℕ → ℕ → ℕ → Bool → Cpu

@@ -29,28 +29,28 @@ use Rattle.cp0.specs.Status.{CU0, modeOf, user, interrupted}
 use Rattle.cp0.specs.Moves.{moveOut, checkMove}
 use Rattle.decode.specs.declared.TlbOp.{TlbOp}
 use Rattle.decode.specs.declared.TlbOp.the-variants.{TLBR, TLBWI, TLBWR, TLBP}
-use Rattle.decode.specs.declared.Ready.{Ready}
-use Rattle.decode.specs.declared.Ready.the-variants.{Go, Unusable, Reserved, InSlot}
+use Rattle.usability.specs.declared.Ready.{Ready}
+use Rattle.usability.specs.declared.Ready.the-variants.{Go, Unusable, Reserved, InSlot}
 use Rattle.decode.specs.Fields.{rs, rt}
 use Rattle.decode.specs.Decode.{decode}
-use Rattle.decode.specs.Ready.{ready}
-use Rattle.execute.specs.declared.Act.{Act}
-use Rattle.execute.specs.declared.Act.the-variants as act
+use Rattle.usability.specs.Ready.{ready}
+use Rattle.flow.specs.declared.Act.{Act}
+use Rattle.flow.specs.declared.Act.the-variants as act
 use Rattle.execute.specs.declared.Command.{Command}
 use Rattle.execute.specs.declared.Command.the-variants as command
 use Rattle.execute.specs.declared.Executed.{Executed}
 use Rattle.execute.specs.declared.Executed.the-variants as done
-use Rattle.execute.specs.Address.{afterSlot}
+use Rattle.flow.specs.Address.{afterSlot}
 use Rattle.execute.specs.LoadStore.{loadAlign, storeAlign}
 use Rattle.execute.specs.Execute.{execute}
 use Rattle.effect.specs.declared.Cpu.{Cpu}
-use Rattle.effect.specs.declared.Turn.the-variants as turn
-use Rattle.effect.specs.declared.Fetched.{Fetched}
-use Rattle.effect.specs.declared.Fetched.the-variants as fetch
-use Rattle.effect.specs.declared.Effect.{Effect}
-use Rattle.effect.specs.Effect.{effects, turned, wrote, raised, stopped}
-use Rattle.effect.specs.Access.{loaded, saved}
-use Rattle.effect.specs.Fetch.{wordAt}
+use Rattle.access.specs.declared.Turn.the-variants as turn
+use Rattle.access.specs.declared.Fetched.{Fetched}
+use Rattle.access.specs.declared.Fetched.the-variants as fetch
+use Rattle.access.specs.declared.Effect.{Effect}
+use Rattle.access.specs.Effect.{effects, turned, wrote, raised, stopped}
+use Rattle.access.specs.Access.{loaded, saved}
+use Rattle.access.specs.Fetch.{wordAt}
 
 -- where an address leads, by the mode and the ASID that CP0 holds
 abbrev pub leads : Cp0 → List ℕ → ℕ → VAddr → Where

@@ -2,7 +2,7 @@
 ghost use mathlib.Core.Path.{_≡_};
 ghost use Rattle.effect.specs.After as Rule;
 use crate::Cpu;
-use crate::Turn;
+use access::Turn;
 use cp0::Cp0;
 
 // After a pending slot its target, else the next instruction.

@@ -4,17 +4,17 @@ ghost use Rattle.cp0.specs.Status.{CU0};
 ghost use Rattle.memory.specs.Memory.{read};
 ghost use Rattle.effect.specs.Step as Rule;
 use crate::Cpu;
-use crate::Effect;
-use crate::Fetched;
 use crate::asked::executed;
 use crate::asked::leads;
-use crate::build::raised;
-use crate::build::stopped;
-use crate::fetch::word_at;
+use access::Effect;
+use access::Fetched;
+use access::build::raised;
+use access::build::stopped;
+use access::fetch::word_at;
 use cp0::Cp0;
 use cp0::Exception;
-use decode::Ready;
 use tlb::VAddr;
+use usability::Ready;
 
 // A word that may be executed, or what it raises or stops instead.
 fn readied<'a>(
@@ -73,7 +73,7 @@ fn decoded<'a>(
 ) -> Effect
     ensures { λ r. ⌜ r ≡ Rule.decoded cpu cp0 (now (regs .entry)) (now (tlb .entry)) (read (now (ram .entry)) (now (rom .entry))) lines w ⌝ }
 {
-    let x = decode::usability::ready(
+    let x = usability::checks::ready(
         cp0::user(cp0.status),
         cu0(cp0.status),
         cpu.slot,

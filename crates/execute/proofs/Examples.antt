@@ -5,10 +5,10 @@ use Rattle.decode.specs.declared.BranchOp.the-variants.{BEQ, BLEZ, BGTZL, BGEZA
 use Rattle.decode.specs.declared.JumpOp.the-variants.{J}
 use Rattle.word.specs.Extend.{extend}
 use Rattle.word.specs.Compare.{lessUnsigned}
-use Rattle.execute.specs.declared.Act.the-variants.{Write, Branch, Skip}
+use Rattle.flow.specs.declared.Act.the-variants.{Write, Branch, Skip}
 use Rattle.execute.specs.Arithmetic.{arithmeticImmediate}
-use Rattle.execute.specs.Branches.{equal, atLeastZero, atMostZero, aboveZero, branchTarget, plain, likely, branch}
-use Rattle.execute.specs.Jumps.{jumpTarget, jump}
+use Rattle.flow.specs.Branches.{equal, atLeastZero, atMostZero, aboveZero, branchTarget, plain, likely, branch}
+use Rattle.flow.specs.Jumps.{jumpTarget, jump}
 
 -- SLTIU extends the sign: any small number is less than ffff
 pub sltiu-ffff : arithmeticImmediate SLTIU 5 0xffff 9 ≡ Write 9 1

@@ -1,4 +1,3 @@
--- What is proved besides the functions: a law of wrapping sums, worked examples, and that no contract admits two results.
-pub mod Wrapping
+-- What is proved besides the functions: worked examples, and that no contract admits two results.
 pub mod Examples
 pub mod Once

@@ -17,12 +17,6 @@ use Rattle.execute.proofs.multiply.multiply.Kinds as multiply-kinds
 use Rattle.execute.proofs.multiply.multiply.Reads as multiply-reads
 use Rattle.execute.proofs.multiply.move_hi_lo.Kinds as move-hi-lo-kinds
 use Rattle.execute.proofs.multiply.move_hi_lo.Reads as move-hi-lo-reads
-use Rattle.execute.proofs.branches.branch.Kinds as branch-kinds
-use Rattle.execute.proofs.branches.branch.Reads as branch-reads
-use Rattle.execute.proofs.jumps.jump.Kinds as jump-kinds
-use Rattle.execute.proofs.jumps.jump.Reads as jump-reads
-use Rattle.execute.proofs.jumps.jump_register.Kinds as jump-register-kinds
-use Rattle.execute.proofs.jumps.jump_register.Reads as jump-register-reads
 use Rattle.execute.proofs.traps.trap.Kinds as trap-kinds
 use Rattle.execute.proofs.traps.trap.Reads as trap-reads
 use Rattle.execute.proofs.traps.trap_immediate.Kinds as trap-immediate-kinds
@@ -69,15 +63,6 @@ multiply-once κs a p z₁ z₂ ws₁ ws₂ h₁ h₂ = (same h₁ h₂, refl)
 
 pub move-hi-lo-once : Unique move-hi-lo-kinds.ps move-hi-lo-kinds.r move-hi-lo-reads.Pre move-hi-lo-reads.Post
 move-hi-lo-once κs a p z₁ z₂ ws₁ ws₂ h₁ h₂ = (same h₁ h₂, refl)
-
-pub branch-once : Unique branch-kinds.ps branch-kinds.r branch-reads.Pre branch-reads.Post
-branch-once κs a p z₁ z₂ ws₁ ws₂ h₁ h₂ = (same h₁ h₂, refl)
-
-pub jump-once : Unique jump-kinds.ps jump-kinds.r jump-reads.Pre jump-reads.Post
-jump-once κs a p z₁ z₂ ws₁ ws₂ h₁ h₂ = (same h₁ h₂, refl)
-
-pub jump-register-once : Unique jump-register-kinds.ps jump-register-kinds.r jump-register-reads.Pre jump-register-reads.Post
-jump-register-once κs a p z₁ z₂ ws₁ ws₂ h₁ h₂ = (same h₁ h₂, refl)
 
 pub trap-once : Unique trap-kinds.ps trap-kinds.r trap-reads.Pre trap-reads.Post
 trap-once κs a p z₁ z₂ ws₁ ws₂ h₁ h₂ = (same h₁ h₂, refl)

@@ -8,8 +8,8 @@ use Rattle.decode.specs.declared.ArithmeticOp.{ArithmeticOp}
 use Rattle.decode.specs.declared.ArithmeticOp.the-variants.{ADD, ADDU, SUB, SUBU, DADD, DADDU, DSUB, DSUBU, SLT, SLTU}
 use Rattle.decode.specs.declared.ArithmeticImmediateOp.{ArithmeticImmediateOp}
 use Rattle.decode.specs.declared.ArithmeticImmediateOp.the-variants.{ADDI, ADDIU, DADDI, DADDIU, SLTI, SLTIU}
-use Rattle.execute.specs.declared.Act.{Act}
-use Rattle.execute.specs.declared.Act.the-variants.{Write, Raise}
+use Rattle.flow.specs.declared.Act.{Act}
+use Rattle.flow.specs.declared.Act.the-variants.{Write, Raise}
 
 -- a sum that fits is written; one that does not raises Integer Overflow, and nothing is written (A3)
 unfoldable pub trapping : ℕ → Sum → Act

@@ -3,7 +3,7 @@
 use Prim.Native.Nat.{ℕ}
 use Rattle.decode.specs.declared.Instr.{Instr}
 use Rattle.decode.specs.declared.Instr.the-variants as instr
-use Rattle.execute.specs.declared.Act.the-variants.{Nothing}
+use Rattle.flow.specs.declared.Act.the-variants.{Nothing}
 use Rattle.execute.specs.declared.Command.the-variants as command
 use Rattle.execute.specs.declared.Executed.{Executed}
 use Rattle.execute.specs.declared.Executed.the-variants.{Plain, Command}
@@ -11,8 +11,8 @@ use Rattle.execute.specs.Arithmetic.{arithmetic, arithmeticImmediate}
 use Rattle.execute.specs.Logic.{logic, logicImmediate}
 use Rattle.execute.specs.Shifts.{shift, shiftVariable}
 use Rattle.execute.specs.Multiply.{multiply, moveHiLo}
-use Rattle.execute.specs.Branches.{branch}
-use Rattle.execute.specs.Jumps.{jump, jumpRegister}
+use Rattle.flow.specs.Branches.{branch}
+use Rattle.flow.specs.Jumps.{jump, jumpRegister}
 use Rattle.execute.specs.Traps.{trap, trapImmediate}
 use Rattle.execute.specs.LoadStore.{load, store}
 use Rattle.execute.specs.System.{special, moveCp0}

@@ -1,11 +1,8 @@
 -- The rulebook's instructions, in the manual's groups; `Execute` is over them all.
-pub mod Address
 pub mod Arithmetic
 pub mod Logic
 pub mod Shifts
 pub mod Multiply
-pub mod Branches
-pub mod Jumps
 pub mod Traps
 pub mod LoadStore
 pub mod System

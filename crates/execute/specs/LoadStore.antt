@@ -7,8 +7,8 @@ use Rattle.memory.specs.Unaligned as unaligned
 use Rattle.memory.specs.Stores as stores
 use Rattle.memory.specs.declared.PAddr.{PAddr}
 use Rattle.memory.specs.declared.Store.{Store}
-use Rattle.execute.specs.declared.Act.{Act}
-use Rattle.execute.specs.declared.Act.the-variants as act
+use Rattle.flow.specs.declared.Act.{Act}
+use Rattle.flow.specs.declared.Act.the-variants as act
 use Rattle.decode.specs.declared.LoadOp.{LoadOp}
 use Rattle.decode.specs.declared.LoadOp.the-variants.{LB, LBU, LH, LHU, LW, LWU, LD, LWL, LWR, LDL, LDR, LL, LLD}
 use Rattle.decode.specs.declared.StoreOp.{StoreOp}

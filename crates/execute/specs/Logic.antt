@@ -5,8 +5,8 @@ use Rattle.decode.specs.declared.LogicOp.{LogicOp}
 use Rattle.decode.specs.declared.LogicOp.the-variants.{AND, OR, XOR, NOR}
 use Rattle.decode.specs.declared.LogicImmediateOp.{LogicImmediateOp}
 use Rattle.decode.specs.declared.LogicImmediateOp.the-variants.{ANDI, ORI, XORI, LUI}
-use Rattle.execute.specs.declared.Act.{Act}
-use Rattle.execute.specs.declared.Act.the-variants.{Write}
+use Rattle.flow.specs.declared.Act.{Act}
+use Rattle.flow.specs.declared.Act.the-variants.{Write}
 
 -- an immediate of 16 bits with zeros above it
 abbrev pub zeroExtend : ℕ → ℕ

@@ -6,8 +6,8 @@ use Rattle.decode.specs.declared.MultiplyOp.{MultiplyOp}
 use Rattle.decode.specs.declared.MultiplyOp.the-variants.{MULT, MULTU, DIV, DIVU, DMULT, DMULTU, DDIV, DDIVU}
 use Rattle.decode.specs.declared.HiLoOp.{HiLoOp}
 use Rattle.decode.specs.declared.HiLoOp.the-variants.{MFHI, MTHI, MFLO, MTLO}
-use Rattle.execute.specs.declared.Act.{Act}
-use Rattle.execute.specs.declared.Act.the-variants.{Write, HiLo}
+use Rattle.flow.specs.declared.Act.{Act}
+use Rattle.flow.specs.declared.Act.the-variants.{Write, HiLo}
 
 -- a pair goes to HI and LO
 unfoldable pub toHiLo : pair.HiLo → Act

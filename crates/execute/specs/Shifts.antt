@@ -5,8 +5,8 @@ use Rattle.decode.specs.declared.ShiftOp.{ShiftOp}
 use Rattle.decode.specs.declared.ShiftOp.the-variants.{SLL, SRL, SRA, DSLL, DSRL, DSRA, DSLL32, DSRL32, DSRA32}
 use Rattle.decode.specs.declared.ShiftVariableOp.{ShiftVariableOp}
 use Rattle.decode.specs.declared.ShiftVariableOp.the-variants.{SLLV, SRLV, SRAV, DSLLV, DSRLV, DSRAV}
-use Rattle.execute.specs.declared.Act.{Act}
-use Rattle.execute.specs.declared.Act.the-variants.{Write}
+use Rattle.flow.specs.declared.Act.{Act}
+use Rattle.flow.specs.declared.Act.the-variants.{Write}
 
 -- The count is the field sa.
 unfoldable pub shift : ShiftOp → ℕ → ℕ → ℕ → Act

@@ -7,8 +7,8 @@ use Rattle.decode.specs.declared.SpecialOp.{SpecialOp}
 use Rattle.decode.specs.declared.SpecialOp.the-variants.{SYSCALL, BREAK, SYNC}
 use Rattle.decode.specs.declared.MoveOp.{MoveOp}
 use Rattle.decode.specs.declared.MoveOp.the-variants.{MFC0, DMFC0, MTC0, DMTC0}
-use Rattle.execute.specs.declared.Act.{Act}
-use Rattle.execute.specs.declared.Act.the-variants.{Nothing, Raise}
+use Rattle.flow.specs.declared.Act.{Act}
+use Rattle.flow.specs.declared.Act.the-variants.{Nothing, Raise}
 use Rattle.execute.specs.declared.Command.{Command}
 use Rattle.execute.specs.declared.Command.the-variants.{MoveFrom, MoveTo}
 

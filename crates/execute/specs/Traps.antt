@@ -8,8 +8,8 @@ use Rattle.decode.specs.declared.TrapOp.{TrapOp}
 use Rattle.decode.specs.declared.TrapOp.the-variants.{TGE, TGEU, TLT, TLTU, TEQ, TNE}
 use Rattle.decode.specs.declared.TrapImmediateOp.{TrapImmediateOp}
 use Rattle.decode.specs.declared.TrapImmediateOp.the-variants.{TGEI, TGEIU, TLTI, TLTIU, TEQI, TNEI}
-use Rattle.execute.specs.declared.Act.{Act}
-use Rattle.execute.specs.declared.Act.the-variants.{Nothing, Raise}
+use Rattle.flow.specs.declared.Act.{Act}
+use Rattle.flow.specs.declared.Act.the-variants.{Nothing, Raise}
 
 -- Trap where the comparison holds (S7), else nothing
 unfoldable pub trapIf : Bool → Act

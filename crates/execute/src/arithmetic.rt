@@ -1,10 +1,10 @@
 // Sums, differences and comparisons.
 ghost use mathlib.Core.Path.{_≡_};
 ghost use Rattle.execute.specs.Arithmetic as Arithmetic;
-use crate::Act;
 use cp0::Exception;
 use decode::ArithmeticImmediateOp;
 use decode::ArithmeticOp;
+use flow::Act;
 use word::Sum;
 
 // A sum that fits is written, one that does not raises Integer Overflow.

@@ -1,7 +1,5 @@
 // Execution: every instruction as a function on numbers, which is handed no memory and no TLB.
 mod arithmetic; // arithmetic.rt: sums, differences and comparisons
-mod branches; // branches.rt: comparisons of registers, with a slot that is taken or skipped
-mod jumps; // jumps.rt: J, JAL, JR, JALR
 mod load_store; // load_store.rt: addresses and alignment, what a load writes, what a store sends out
 mod logic; // logic.rt: bit by bit, and the upper immediate
 mod multiply; // multiply.rt: products and quotients to HI and LO, and the moves of these
@@ -11,17 +9,15 @@ mod traps; // traps.rt: comparisons that raise Trap
 
 ghost use mathlib.Core.Path.{_≡_};
 ghost use Rattle.execute.specs.Execute as Execute;
-ghost use Rattle.execute.specs.declared.Act.the-variants as act;
+ghost use Rattle.flow.specs.declared.Act.the-variants as act;
 use arithmetic::arithmetic;
 use arithmetic::arithmetic_immediate;
-use branches::branch;
-use cp0::Exception;
 use decode::Instr;
-use decode::LoadOp;
-use decode::StoreOp;
 use decode::TlbOp;
-use jumps::jump;
-use jumps::jump_register;
+use flow::Act;
+use flow::branch;
+use flow::jump;
+use flow::jump_register;
 pub use load_store::finish;
 pub use load_store::goes_out;
 use load_store::load;
@@ -36,23 +32,8 @@ use shifts::shift;
 use shifts::shift_variable;
 use system::move_cp0;
 use system::special;
-use tlb::VAddr;
 use traps::trap;
 use traps::trap_immediate;
-
-// All that an instruction does, or asks for. Where a register is named, 0 means that none is written.
-pub enum Act {
-    Nothing,
-    Write { reg: usize, value: u64 },
-    HiLo { hi: u64, lo: u64 },
-    // The delay slot follows, then `to`; `link` receives the address of the instruction after the slot.
-    Branch { to: u64, link: usize },
-    // A likely branch that is not taken skips its slot.
-    Skip { link: usize },
-    Load { op: LoadOp, reg: usize, at: VAddr },
-    Store { op: StoreOp, reg: usize, at: VAddr },
-    Raise(Exception),
-}
 
 // What a CP0 instruction asks for.
 pub enum Command {

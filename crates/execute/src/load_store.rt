@@ -1,9 +1,9 @@
 // Loads and stores: the alignment they ask for, what a load writes, and which bytes a store sends out.
 ghost use mathlib.Core.Path.{_≡_};
 ghost use Rattle.execute.specs.LoadStore as LoadStore;
-use crate::Act;
 use decode::LoadOp;
 use decode::StoreOp;
+use flow::Act;
 use memory::PAddr;
 use memory::Store;
 use tlb::VAddr;

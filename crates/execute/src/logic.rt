@@ -1,9 +1,9 @@
 // Logic, and the upper immediate.
 ghost use mathlib.Core.Path.{_≡_};
 ghost use Rattle.execute.specs.Logic as Logic;
-use crate::Act;
 use decode::LogicImmediateOp;
 use decode::LogicOp;
+use flow::Act;
 
 // The register forms.
 pub fn logic(op: LogicOp, rs: u64, rt: u64, rd: usize) -> Act

@@ -1,9 +1,9 @@
 // Products and quotients, to HI and LO, and the moves from and to these.
 ghost use mathlib.Core.Path.{_≡_};
 ghost use Rattle.execute.specs.Multiply as Multiply;
-use crate::Act;
 use decode::HiLoOp;
 use decode::MultiplyOp;
+use flow::Act;
 use word::HiLo;
 
 // A pair goes to HI and LO.

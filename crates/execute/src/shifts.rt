@@ -1,9 +1,9 @@
 // Shifts of the value of rt, written to rd.
 ghost use mathlib.Core.Path.{_≡_};
 ghost use Rattle.execute.specs.Shifts as Shifts;
-use crate::Act;
 use decode::ShiftOp;
 use decode::ShiftVariableOp;
+use flow::Act;
 
 // By the count in the word.
 pub fn shift(op: ShiftOp, rt: u64, sa: u64, rd: usize) -> Act

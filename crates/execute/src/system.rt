@@ -1,11 +1,11 @@
 // System calls, breakpoints, SYNC, and the moves from and to CP0.
 ghost use mathlib.Core.Path.{_≡_};
 ghost use Rattle.execute.specs.System as System;
-use crate::Act;
 use crate::Command;
 use cp0::Exception;
 use decode::MoveOp;
 use decode::SpecialOp;
+use flow::Act;
 
 // System call and breakpoint raise, SYNC does nothing.
 pub fn special(op: SpecialOp) -> Act

@@ -1,10 +1,10 @@
 // The traps.
 ghost use mathlib.Core.Path.{_≡_};
 ghost use Rattle.execute.specs.Traps as Traps;
-use crate::Act;
 use cp0::Exception;
 use decode::TrapImmediateOp;
 use decode::TrapOp;
+use flow::Act;
 
 // Trap where the comparison holds, else nothing.
 fn trap_if(holds: bool) -> Act

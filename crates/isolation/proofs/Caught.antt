@@ -20,13 +20,13 @@ use Rattle.cp0.specs.Status.{user, interrupted, causeRead, modeOf}
 use Rattle.cp0.specs.Tick.{ended, counted, timed, drawn}
 use Rattle.decode.specs.Decode.{decodeBy, entryIn, byMajor}
 use Rattle.decode.specs.Maps.{majors}
-use Rattle.decode.specs.Ready.{ready, usable, allowed, inPlace}
+use Rattle.usability.specs.Ready.{ready, usable, allowed, inPlace}
 use Rattle.execute.specs.Execute.{execute}
 use Rattle.execute.specs.LoadStore.{load, effective, loadAlign}
-use Rattle.effect.specs.Access.{loaded}
+use Rattle.access.specs.Access.{loaded}
 use Rattle.effect.specs.After.{cpuAfter, arrived, cp0After}
-use Rattle.effect.specs.Effect.{raised, turned}
-use Rattle.effect.specs.Fetch.{wordAt, wordFound}
+use Rattle.access.specs.Effect.{raised, turned}
+use Rattle.access.specs.Fetch.{wordAt, wordFound}
 use Rattle.effect.specs.Step.{effectOf, begun, decoded, readied, executed, asked}
 use Rattle.card.specs.Machine.{inRange, cpuInRange}
 use Rattle.card.specs.Run.{refusalBy, runOf, steps}

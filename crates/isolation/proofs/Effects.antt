@@ -30,32 +30,32 @@ use Rattle.decode.specs.declared.Instr.{Instr}
 use Rattle.decode.specs.declared.Instr.the-variants as instr
 use Rattle.decode.specs.declared.Decoded.{Decoded}
 use Rattle.decode.specs.declared.Decoded.the-variants as decoded
-use Rattle.decode.specs.declared.Ready.{Ready}
-use Rattle.decode.specs.declared.Ready.the-variants.{Go, Unusable, Reserved, InSlot}
+use Rattle.usability.specs.declared.Ready.{Ready}
+use Rattle.usability.specs.declared.Ready.the-variants.{Go, Unusable, Reserved, InSlot}
 use Rattle.decode.specs.declared.LoadOp.{LoadOp}
 use Rattle.decode.specs.declared.LoadOp.the-variants as load
 use Rattle.decode.specs.declared.StoreOp.{StoreOp}
 use Rattle.decode.specs.declared.StoreOp.the-variants as store
 use Rattle.decode.specs.Fields.{rs, rt}
 use Rattle.decode.specs.Decode.{decode}
-use Rattle.decode.specs.Ready.{isCp0, isBranch, inPlace, allowed, usable, reservedCop0, ready}
-use Rattle.decode.specs.Doubleword.{isDouble}
-use Rattle.execute.specs.declared.Act.{Act}
-use Rattle.execute.specs.declared.Act.the-variants as act
+use Rattle.usability.specs.Ready.{isCp0, isBranch, inPlace, allowed, usable, reservedCop0, ready}
+use Rattle.usability.specs.Doubleword.{isDouble}
+use Rattle.flow.specs.declared.Act.{Act}
+use Rattle.flow.specs.declared.Act.the-variants as act
 use Rattle.execute.specs.declared.Command.{Command}
 use Rattle.execute.specs.declared.Executed.{Executed}
 use Rattle.execute.specs.declared.Executed.the-variants as done
 use Rattle.execute.specs.LoadStore.{loadAlign, storeAlign, goesOut}
 use Rattle.execute.specs.Execute.{execute}
 use Rattle.effect.specs.declared.Cpu.{Cpu}
-use Rattle.effect.specs.declared.Turn.{Turn}
-use Rattle.effect.specs.declared.Turn.the-variants as turn
-use Rattle.effect.specs.declared.Fetched.{Fetched}
-use Rattle.effect.specs.declared.Fetched.the-variants as fetch
-use Rattle.effect.specs.declared.Effect.{Effect}
-use Rattle.effect.specs.Effect.{effects, turned, wrote, raised, stopped}
-use Rattle.effect.specs.Access.{linking, got, loaded, linkBit, ifLinked, sending, sent, saved}
-use Rattle.effect.specs.Fetch.{wordFound, wordAt}
+use Rattle.access.specs.declared.Turn.{Turn}
+use Rattle.access.specs.declared.Turn.the-variants as turn
+use Rattle.access.specs.declared.Fetched.{Fetched}
+use Rattle.access.specs.declared.Fetched.the-variants as fetch
+use Rattle.access.specs.declared.Effect.{Effect}
+use Rattle.access.specs.Effect.{effects, turned, wrote, raised, stopped}
+use Rattle.access.specs.Access.{linking, got, loaded, linkBit, ifLinked, sending, sent, saved}
+use Rattle.access.specs.Fetch.{wordFound, wordAt}
 use Rattle.effect.specs.Step as step
 use Rattle.effect.specs.Step.{leads, asked, executed, readied, begun, fetched, effectOf}
 use Rattle.isolation.specs.Reach.{Reached, ReachedDirty}

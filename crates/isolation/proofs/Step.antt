@@ -27,9 +27,9 @@ use Rattle.cp0.specs.Status.{CU0, user}
 use Rattle.cp0.specs.Exceptions.{entered}
 use Rattle.cp0.specs.Tick.{ended}
 use Rattle.cp0.proofs.Modes.{entered-not-user, ended-status, ended-entryhi, linked-status, linked-entryhi}
-use Rattle.effect.specs.declared.Turn.{Turn}
-use Rattle.effect.specs.declared.Turn.the-variants as turn
-use Rattle.effect.specs.declared.Effect.{Effect}
+use Rattle.access.specs.declared.Turn.{Turn}
+use Rattle.access.specs.declared.Turn.the-variants as turn
+use Rattle.access.specs.declared.Effect.{Effect}
 use Rattle.effect.specs.Step.{effectOf}
 use Rattle.effect.specs.After.{cp0After}
 use Rattle.card.specs.declared.Machine.{Machine}

@@ -1,0 +1,3 @@
+-- Which variants the predicates name, and that each contract says all.
+pub mod Variants
+pub mod Once

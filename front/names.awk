@@ -49,7 +49,7 @@ function stop_meaning(stop) {
     if (stop == 4) return "the machine has a field outside its range"
     if (stop == 5) return "the image's text is over 65,536 bytes"
     if (stop == 6) return "a line is not an exact frame"
-    if (stop == 7) return "give the frame a value that the card has; --image IMAGE shows the reason"
+    if (stop == 7) return "a value in a frame is not allowed"
     if (stop == 8) return "the budget frame is missing or not last"
     if (stop == 16) return "two TLB slots match one address; the state is the one before that step"
     if (stop == 17) return "a branch, a jump or ERET stands in a delay slot; the state is the one before that step"

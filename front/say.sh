@@ -33,7 +33,7 @@ make_scratch() {
   need coreutils mktemp
   need mawk awk
   scratch=$(mktemp -d "${TMPDIR:-/tmp}/card.XXXXXX") || fail "no temporary folder can be made in ${TMPDIR:-/tmp}"
-  trap 'rm -rf -- "$scratch"' EXIT
+  trap '[ -z "${running:-}" ] || { kill "$running" && wait "$running"; } 2>/dev/null; rm -rf -- "$scratch"' EXIT
   trap 'exit 129' HUP
   trap 'exit 130' INT
   trap 'exit 143' TERM
@@ -41,7 +41,10 @@ make_scratch() {
 
 # Stops unless FILE can be read, where it is not '-': readable FILE WHAT USE
 readable() {
-  [ "$1" != - ] || return 0
+  if [ "$1" = - ]; then
+    { : 8<&0; } 2>/dev/null || wrong "standard input is closed; write: $3"
+    return 0
+  fi
   [ -n "$1" ] || wrong "the name of $2 is empty; write: $3"
   [ -e "$1" ] || wrong "there is no file '$1'; write: $3"
   [ ! -d "$1" ] || wrong "'$1' is a folder, not $2; write: $3"

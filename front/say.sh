@@ -61,8 +61,13 @@ take() {
   fi || fail "$3 cannot be read"
 }
 
-# Prints a finished file; a reader that has gone away is no error worth a line.
-emit() { cat -- "$1" 2>/dev/null || exit 1; }
+# Prints a finished file; a reader that has gone away is no error worth a line, any other is.
+emit() {
+  local why=''
+  { : 3>&1; } 2>/dev/null || fail "standard output is closed"
+  { why=$(cat -- "$1" 2>&1 >&3); } 3>&1 && return
+  case $why in '' | *'Broken pipe'*) exit 1 ;; *) fail "the output cannot be written: ${why##*: }" ;; esac
+}
 
 # Sets $mips to the prefix of the MIPS binutils, as in ${mips}objdump, or fails: CARD_MIPS names another prefix.
 find_mips() {

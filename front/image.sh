@@ -18,8 +18,8 @@ card_image() {
   [ -z "$kernel" ] || readable "$kernel" "a kernel" "$image_use"
   need_mips
   make_scratch
-  take "$program" "$scratch/program" "the program"
-  [ -z "$kernel" ] || take "$kernel" "$scratch/kernel" "the kernel"
+  take "$program" "$scratch/program" "the program" 16
+  [ -z "$kernel" ] || take "$kernel" "$scratch/kernel" "the kernel" 16
   : >"$scratch/frames"
   place_sections
   add_frames

@@ -51,14 +51,17 @@ readable() {
   [ -r "$1" ] || wrong "'$1' may not be read; write: $3"
 }
 
-# Copies FILE, or standard input for '-', to COPY: take FILE COPY WHAT
+# Copies FILE, or standard input for '-', to COPY: take FILE COPY WHAT [MIB]
+# What has more than MIB, 1 if not given, is none: an image has 64 KiB at most, an answer 219 KiB. It is not read to its end, which it may not have.
 take() {
+  local most=$((${4:-1} << 20))
   if [ "$1" = - ]; then
     [ ! -t 0 ] || note "reading $3 from the keyboard; Ctrl-D ends it"
-    cat >"$2"
+    head -c $((most + 1)) >"$2"
   else
-    cat <"$1" >"$2"
-  fi || fail "$3 cannot be read"
+    head -c $((most + 1)) <"$1" >"$2"
+  fi || fail "$3 cannot be read, or there is no room for it in ${TMPDIR:-/tmp}"
+  [ "$(wc -c <"$2")" -le "$most" ] || fail "$3 has over ${4:-1} MiB, too much to be one"
 }
 
 # Prints a finished file; a reader that has gone away is no error worth a line, any other is.

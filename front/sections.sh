@@ -11,7 +11,7 @@ place_sections() {
   check_elf program "$program"
   entry_of_program=$entry
   placed=()
-  sections_of program >"$scratch/sections"
+  sections_of program "$program" >"$scratch/sections"
   [ -s "$scratch/sections" ] || fail "'$program' has no section to load; write code or data into .text or .data"
   if [ -n "$user" ]; then place_user; else place_unmapped program "$scratch/sections"; fi
   entry=$entry_of_program
@@ -43,12 +43,14 @@ word_of() {
   [[ $1 =~ ^(0{8}|f{8})?[0-9a-f]{1,8}$ ]] && printf '%s' "${digits: -8}"
 }
 
-# Prints NAME SIZE VMA LMA LOADED WRITABLE of each section that takes room in memory; the notes for Linux' loader are no part of it.
+# Prints NAME SIZE VMA LMA LOADED WRITABLE of each section that takes room in memory: sections_of FILE NAME
+# The notes for Linux' loader are no part of it.
 sections_of() {
-  "${mips}objdump" -h -w "$scratch/$1" | awk '
+  "${mips}objdump" -h -w "$scratch/$1" >"$scratch/headers" 2>/dev/null || fail "'$2' is cut short or damaged: its sections cannot be read; link it anew"
+  awk '
     $1 ~ /^[0-9]+$/ && / ALLOC/ && $3 !~ /^0+$/ && $2 !~ /^\.(MIPS\.abiflags|MIPS\.options|reginfo|note.*)$/ {
       print $2, $3, $4, $5, (/ LOAD/ ? "yes" : "no"), (/READONLY/ ? "no" : "yes")
-    }'
+    }' "$scratch/headers"
 }
 
 # Places the sections of a list that are not mapped: by their load address, onto RAM.
@@ -61,7 +63,7 @@ place_unmapped() {
     [ "$physical" -ge 0 ] ||
       fail "section $name: $size bytes at $lma, a mapped address; link it at 80000000 upward, or give it a load address in RAM"
     [ $((physical + size)) -le "$ram_size" ] ||
-      fail "section $name: $size bytes at $lma do not fit in the RAM, 65,536 bytes at 80000000; $(fit_advice "$physical")"
+      fail "section $name: $size bytes at $lma do not fit in the RAM, 65,536 bytes at 80000000; $(fit_advice "$physical" "$size")"
     placed+=("$physical $size $name $loaded $file")
   done <"$2"
 }
@@ -76,7 +78,8 @@ physical_of() {
 }
 
 fit_advice() {
-  if [ "$1" -ge $((16#400000)) ]; then echo "link it at 80000000 upward, or make a User program of it with --user"
+  if [ "$2" -gt "$ram_size" ]; then echo "make it smaller"
+  elif [ "$1" -ge $((16#400000)) ]; then echo "link it at 80000000 upward, or make a User program of it with --user"
   else echo "link with ld -N, which sets it right after .text, or with -Tdata=ADDRESS"
   fi
 }

@@ -60,7 +60,8 @@ function stop_meaning(stop) {
 
 # What to do about a stop or a refusal.
 function stop_advice(stop) {
-    if (stop == 0) return "nothing is wrong; to go on further, give a larger budget (frame 03, or --budget of ./card image)"
+    if (stop == 0) return "the run is whole; how the program fared its registers say, and ./card state has exceptions; " \
+        "to go on further, give a larger budget (frame 03, or --budget of ./card image)"
     if (stop == 2) return "give a boot ROM whose length is a multiple of 8, at most 4 MiB"
     if (stop == 3) return "give lines from 00 to 1f"
     if (stop == 5) return "leave out 02 frames of zeros, since RAM starts as zeros, or make the program smaller"

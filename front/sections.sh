@@ -22,15 +22,16 @@ place_sections() {
 # Holds a file (program or kernel in $scratch) to a linked big-endian MIPS program: check_elf FILE NAME
 # Sets $entry to its entry point, 8 digits.
 check_elf() {
-  local header type isa
+  local header type isa where='-N -Ttext=0x80000000'
+  [ "$1" != program ] || [ -z "$user" ] || where='-Ttext=0x400000 -Tdata=0x401000'
   header=$("${mips}readelf" -h "$scratch/$1" 2>/dev/null)
   shift
   [[ $header == *'ELF Header'* ]] || fail "'$1' is no ELF file; make one with ${mips}as and ${mips}ld"
   [[ $header == *Machine:*MIPS* ]] || fail "'$1' is not for MIPS; make it with ${mips}as and ${mips}ld"
   [[ $header == *'big endian'* ]] || fail "'$1' is little-endian, and the card is big-endian; assemble and link with -EB"
   type=$(awk '$1 == "Type:" { print $2; exit }' <<<"$header")
-  [ "$type" != REL ] || fail "'$1' is not linked yet; write: ${mips}ld -EB -N -Ttext=0x80000000 -o PROGRAM.elf '$1'"
-  [ "$type" = EXEC ] || fail "'$1' is an ELF of type $type, not a program at a fixed address; link it with ${mips}ld -EB -N -Ttext=0x80000000"
+  [ "$type" != REL ] || fail "'$1' is not linked yet; write: ${mips}ld -EB $where -o PROGRAM.elf '$1'"
+  [ "$type" = EXEC ] || fail "'$1' is an ELF of type $type, not a program at a fixed address; link it with ${mips}ld -EB $where"
   isa=$(sed -n 's/^ *Flags:.*\(mips[0-9][0-9a-z]*\).*/\1/p' <<<"$header")
   case $isa in '' | mips[123]) ;; *) note "'$1' was assembled for $isa, and the card has MIPS I to III: assemble with -mips3" ;; esac
   entry=$(sed -n 's/^ *Entry point address: *0x//p' <<<"$header")

@@ -52,29 +52,44 @@ function explain_refusal(stop, line) {
     print "Refused: " stop ", " stop_meaning(stop) "."
     if (stop >= 6 && stop <= 8) {
         print "Line: " line
-        quote_line(line)
+        quote_line(stop, line)
     }
     print "What to do: " stop_advice(stop) "."
 }
 
 # The line that a refusal names, where the image is given, with what is wrong in it.
-function quote_line(line) {
+function quote_line(stop, line) {
     if (ENVIRON["IMAGE"] == "")
         print "  (give the image as --image IMAGE to see the line)"
+    else if (stop != refusal_at(line))
+        print "  (the image given is not the one that was refused: the reader would not say this of its line " line ")"
     else if (line > image_lines)
-        print "  the image ends at line " image_lines ", with no budget frame"
+        print "  the image ends " (image_lines ? "at line " image_lines : "before its first line") ", with no budget frame"
     else {
         print "  in the image: '" shown(quoted[line]) "'"
-        print "  " line_fault(line)
+        print "  " fault_reason
     }
 }
 
-function line_fault(line) {
-    if (frame_fault(quoted[line]))
-        return fault_reason
-    if (line == image_lines && ENVIRON["ENDED"] == "")
-        return "the line is not ended by LF"
-    return "a frame after the budget"
+# What the reader says of a line of the image given, were those before it in order; the reason is left in fault_reason.
+function refusal_at(line, i, fault) {
+    for (i = 1; i < line && i <= image_lines; i++)
+        if (quoted[i] ~ /^03/)
+            budget_before = 1
+    if (line > image_lines)
+        return line == image_lines + 1 && !budget_before ? 8 : 0
+    if (line < 1)
+        return 0
+    fault = frame_fault(quoted[line])
+    if (fault != 6 && line == image_lines && ENVIRON["ENDED"] == "") {
+        fault_reason = "the line is not ended by LF"
+        return 6
+    }
+    if (!fault && budget_before) {
+        fault_reason = "a frame after the budget"
+        return 8
+    }
+    return fault
 }
 
 function explain_run(i, tag, place) {

@@ -8,6 +8,7 @@ card_explain() {
     --image)
       [ $# -ge 2 ] || wrong "--image wants a file; write: $use"
       image=$2
+      [ -n "$image" ] || wrong "the name of the image is empty; write: $use"
       shift 2
       ;;
     -?*) wrong "'$1' is no option of explain; write: $use" ;;

@@ -15,6 +15,8 @@ function frame_fault(line, want) {
     want = frame_length(substr(line, 1, 2))
     if (line == "")
         fault_reason = "the line is empty"
+    else if (line ~ /\r$/)
+        fault_reason = "the line ends with CR and LF, as Windows writes it, and LF alone is wanted: tr -d '\\r' <IMAGE takes the CRs out"
     else if (line ~ /[^0-9a-f]/)
         fault_reason = "a character is not lowercase hexadecimal"
     else if (!want)

@@ -12,13 +12,14 @@ card_image() {
   read_options "$@"
   [ -n "$program" ] || wrong "the program is missing; write: $image_use"
   [ -z "$kernel" ] || [ -n "$user" ] || wrong "--kernel goes with --user; write: ./card image PROGRAM.elf --user --kernel KERNEL.elf"
+  [ "$output" != - ] || output=
   [ -z "$output" ] || check_output
   readable "$program" "a program" "$image_use"
   [ -z "$kernel" ] || readable "$kernel" "a kernel" "$image_use"
   need_mips
   make_scratch
-  take "$program" "$scratch/program" "the program"
-  [ -z "$kernel" ] || take "$kernel" "$scratch/kernel" "the kernel"
+  take "$program" "$scratch/program" "the program" 16
+  [ -z "$kernel" ] || take "$kernel" "$scratch/kernel" "the kernel" 16
   : >"$scratch/frames"
   place_sections
   add_frames
@@ -113,7 +114,7 @@ keep_output() {
     return
   fi
   whole=$(mktemp -- "$output.XXXXXX" 2>/dev/null) || fail "the image cannot be written beside '$output'; write another -o IMAGE"
-  if cat -- "$scratch/image" >"$whole" && chmod "$(printf %o $((0666 & ~0$(umask))))" "$whole" && mv -f -- "$whole" "$output"; then return; fi
+  if cat -- "$scratch/image" >"$whole" && chmod -- "$(printf %o $((0666 & ~0$(umask))))" "$whole" && mv -f -- "$whole" "$output"; then return; fi
   rm -f -- "$whole"
   fail "the image cannot be written to '$output'"
 }

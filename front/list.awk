@@ -24,7 +24,7 @@ function refuse(stop, line, reason) {
 function list_line(i, line, fault) {
     line = text[i]
     fault = frame_fault(line)
-    if (!fault && i == lines && !ended) {
+    if (fault != 6 && i == lines && !ended) {
         fault = 6
         fault_reason = "the line is not ended by LF"
     }

@@ -49,7 +49,7 @@ function stop_meaning(stop) {
     if (stop == 4) return "the machine has a field outside its range"
     if (stop == 5) return "the image's text is over 65,536 bytes"
     if (stop == 6) return "a line is not an exact frame"
-    if (stop == 7) return "give the frame a value that the card has; --image IMAGE shows the reason"
+    if (stop == 7) return "a value in a frame is not allowed"
     if (stop == 8) return "the budget frame is missing or not last"
     if (stop == 16) return "two TLB slots match one address; the state is the one before that step"
     if (stop == 17) return "a branch, a jump or ERET stands in a delay slot; the state is the one before that step"
@@ -60,7 +60,8 @@ function stop_meaning(stop) {
 
 # What to do about a stop or a refusal.
 function stop_advice(stop) {
-    if (stop == 0) return "nothing is wrong; to go on further, give a larger budget (frame 03, or --budget of ./card image)"
+    if (stop == 0) return "the run is whole; how the program fared its registers say, and ./card state has exceptions; " \
+        "to go on further, give a larger budget (frame 03, or --budget of ./card image)"
     if (stop == 2) return "give a boot ROM whose length is a multiple of 8, at most 4 MiB"
     if (stop == 3) return "give lines from 00 to 1f"
     if (stop == 5) return "leave out 02 frames of zeros, since RAM starts as zeros, or make the program smaller"

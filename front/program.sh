@@ -2,29 +2,33 @@
 # shellcheck shell=bash
 
 # Prints the answer of a proved program to an image, once it is whole: answer_of IMAGE NAME [ARGUMENTS..]
+# It runs in the background, since bash heeds no signal while it waits for a command before it; make_scratch's trap ends it.
 answer_of() {
-  local image=$1
-  shift
+  local image=$1 name=$2 command
+  shift 2
   make_scratch
-  if [ "$image" = - ]; then program "$@"; else program "$@" <"$image"; fi >"$scratch/answer" ||
-    fail "$1 ended with status $?, so there is no answer"
+  find_program "$name"
+  if [ "$image" = - ]; then exec 8<&0; else exec 8<"$image"; fi
+  "${command[@]}" "$@" <&8 >"$scratch/answer" 8<&- &
+  running=$!
+  wait "$running" || fail "$name ended with status $?, so there is no answer"
+  running=
   emit "$scratch/answer"
 }
 
-# Runs a proved program with what is on standard input: program NAME [ARGUMENTS..]
+# Sets $command to the words that run a proved program, which is built first where it must be: find_program NAME
 # CARD_BIN names a folder with other programs of these names; they run as they are.
-program() {
-  local name=$1
-  shift
+find_program() {
+  local name=$1 variable
   if [ -n "${CARD_BIN:-}" ]; then
     [ -x "$CARD_BIN/$name" ] || fail "CARD_BIN is '$CARD_BIN', and there is no program $name in it"
-    "$CARD_BIN/$name" "$@"
+    command=("$CARD_BIN/$name")
     return
   fi
   find_kit "$name"
   built "$name" || build "$name"
   for variable in ${!QEMU_@}; do unset "$variable"; done
-  "${runner[@]}" "$root/target/bin/$name" "$@"
+  command=("${runner[@]}" "$root/target/bin/$name")
 }
 
 # Sets $runner to the words before a program: the kit's loader and C library, under the kit's emulator on Arm.

@@ -33,7 +33,7 @@ make_scratch() {
   need coreutils mktemp
   need mawk awk
   scratch=$(mktemp -d "${TMPDIR:-/tmp}/card.XXXXXX") || fail "no temporary folder can be made in ${TMPDIR:-/tmp}"
-  trap 'rm -rf -- "$scratch"' EXIT
+  trap '[ -z "${running:-}" ] || { kill "$running" && wait "$running"; } 2>/dev/null; rm -rf -- "$scratch"' EXIT
   trap 'exit 129' HUP
   trap 'exit 130' INT
   trap 'exit 143' TERM
@@ -41,25 +41,36 @@ make_scratch() {
 
 # Stops unless FILE can be read, where it is not '-': readable FILE WHAT USE
 readable() {
-  [ "$1" != - ] || return 0
+  if [ "$1" = - ]; then
+    { : 8<&0; } 2>/dev/null || wrong "standard input is closed; write: $3"
+    return 0
+  fi
   [ -n "$1" ] || wrong "the name of $2 is empty; write: $3"
   [ -e "$1" ] || wrong "there is no file '$1'; write: $3"
   [ ! -d "$1" ] || wrong "'$1' is a folder, not $2; write: $3"
   [ -r "$1" ] || wrong "'$1' may not be read; write: $3"
 }
 
-# Copies FILE, or standard input for '-', to COPY: take FILE COPY WHAT
+# Copies FILE, or standard input for '-', to COPY: take FILE COPY WHAT [MIB]
+# What has more than MIB, 1 if not given, is none: an image has 64 KiB at most, an answer 219 KiB. It is not read to its end, which it may not have.
 take() {
+  local most=$((${4:-1} << 20))
   if [ "$1" = - ]; then
     [ ! -t 0 ] || note "reading $3 from the keyboard; Ctrl-D ends it"
-    cat >"$2"
+    head -c $((most + 1)) >"$2"
   else
-    cat <"$1" >"$2"
-  fi || fail "$3 cannot be read"
+    head -c $((most + 1)) <"$1" >"$2"
+  fi || fail "$3 cannot be read, or there is no room for it in ${TMPDIR:-/tmp}"
+  [ "$(wc -c <"$2")" -le "$most" ] || fail "$3 has over ${4:-1} MiB, too much to be one"
 }
 
-# Prints a finished file; a reader that has gone away is no error worth a line.
-emit() { cat -- "$1" 2>/dev/null || exit 1; }
+# Prints a finished file; a reader that has gone away is no error worth a line, any other is.
+emit() {
+  local why=''
+  { : 3>&1; } 2>/dev/null || fail "standard output is closed"
+  { why=$(cat -- "$1" 2>&1 >&3); } 3>&1 && return
+  case $why in '' | *'Broken pipe'*) exit 1 ;; *) fail "the output cannot be written: ${why##*: }" ;; esac
+}
 
 # Sets $mips to the prefix of the MIPS binutils, as in ${mips}objdump, or fails: CARD_MIPS names another prefix.
 find_mips() {

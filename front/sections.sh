@@ -11,7 +11,7 @@ place_sections() {
   check_elf program "$program"
   entry_of_program=$entry
   placed=()
-  sections_of program >"$scratch/sections"
+  sections_of program "$program" >"$scratch/sections"
   [ -s "$scratch/sections" ] || fail "'$program' has no section to load; write code or data into .text or .data"
   if [ -n "$user" ]; then place_user; else place_unmapped program "$scratch/sections"; fi
   entry=$entry_of_program
@@ -22,15 +22,16 @@ place_sections() {
 # Holds a file (program or kernel in $scratch) to a linked big-endian MIPS program: check_elf FILE NAME
 # Sets $entry to its entry point, 8 digits.
 check_elf() {
-  local header type isa
+  local header type isa where='-N -Ttext=0x80000000'
+  [ "$1" != program ] || [ -z "$user" ] || where='-Ttext=0x400000 -Tdata=0x401000'
   header=$("${mips}readelf" -h "$scratch/$1" 2>/dev/null)
   shift
   [[ $header == *'ELF Header'* ]] || fail "'$1' is no ELF file; make one with ${mips}as and ${mips}ld"
   [[ $header == *Machine:*MIPS* ]] || fail "'$1' is not for MIPS; make it with ${mips}as and ${mips}ld"
   [[ $header == *'big endian'* ]] || fail "'$1' is little-endian, and the card is big-endian; assemble and link with -EB"
   type=$(awk '$1 == "Type:" { print $2; exit }' <<<"$header")
-  [ "$type" != REL ] || fail "'$1' is not linked yet; write: ${mips}ld -EB -N -Ttext=0x80000000 -o PROGRAM.elf '$1'"
-  [ "$type" = EXEC ] || fail "'$1' is an ELF of type $type, not a program at a fixed address; link it with ${mips}ld -EB -N -Ttext=0x80000000"
+  [ "$type" != REL ] || fail "'$1' is not linked yet; write: ${mips}ld -EB $where -o PROGRAM.elf '$1'"
+  [ "$type" = EXEC ] || fail "'$1' is an ELF of type $type, not a program at a fixed address; link it with ${mips}ld -EB $where"
   isa=$(sed -n 's/^ *Flags:.*\(mips[0-9][0-9a-z]*\).*/\1/p' <<<"$header")
   case $isa in '' | mips[123]) ;; *) note "'$1' was assembled for $isa, and the card has MIPS I to III: assemble with -mips3" ;; esac
   entry=$(sed -n 's/^ *Entry point address: *0x//p' <<<"$header")
@@ -43,12 +44,14 @@ word_of() {
   [[ $1 =~ ^(0{8}|f{8})?[0-9a-f]{1,8}$ ]] && printf '%s' "${digits: -8}"
 }
 
-# Prints NAME SIZE VMA LMA LOADED WRITABLE of each section that takes room in memory; the notes for Linux' loader are no part of it.
+# Prints NAME SIZE VMA LMA LOADED WRITABLE of each section that takes room in memory: sections_of FILE NAME
+# The notes for Linux' loader are no part of it.
 sections_of() {
-  "${mips}objdump" -h -w "$scratch/$1" | awk '
+  "${mips}objdump" -h -w "$scratch/$1" >"$scratch/headers" 2>/dev/null || fail "'$2' is cut short or damaged: its sections cannot be read; link it anew"
+  awk '
     $1 ~ /^[0-9]+$/ && / ALLOC/ && $3 !~ /^0+$/ && $2 !~ /^\.(MIPS\.abiflags|MIPS\.options|reginfo|note.*)$/ {
       print $2, $3, $4, $5, (/ LOAD/ ? "yes" : "no"), (/READONLY/ ? "no" : "yes")
-    }'
+    }' "$scratch/headers"
 }
 
 # Places the sections of a list that are not mapped: by their load address, onto RAM.
@@ -61,7 +64,7 @@ place_unmapped() {
     [ "$physical" -ge 0 ] ||
       fail "section $name: $size bytes at $lma, a mapped address; link it at 80000000 upward, or give it a load address in RAM"
     [ $((physical + size)) -le "$ram_size" ] ||
-      fail "section $name: $size bytes at $lma do not fit in the RAM, 65,536 bytes at 80000000; $(fit_advice "$physical")"
+      fail "section $name: $size bytes at $lma do not fit in the RAM, 65,536 bytes at 80000000; $(fit_advice "$physical" "$size")"
     placed+=("$physical $size $name $loaded $file")
   done <"$2"
 }
@@ -76,7 +79,8 @@ physical_of() {
 }
 
 fit_advice() {
-  if [ "$1" -ge $((16#400000)) ]; then echo "link it at 80000000 upward, or make a User program of it with --user"
+  if [ "$2" -gt "$ram_size" ]; then echo "make it smaller"
+  elif [ "$1" -ge $((16#400000)) ]; then echo "link it at 80000000 upward, or make a User program of it with --user"
   else echo "link with ld -N, which sets it right after .text, or with -Tdata=ADDRESS"
   fi
 }

@@ -12,7 +12,7 @@ place_user() {
   place_unmapped program "$scratch/high"
   if [ -n "$kernel" ]; then
     check_elf kernel "$kernel"
-    sections_of kernel >"$scratch/kernel.sections"
+    sections_of kernel "$kernel" >"$scratch/kernel.sections"
     place_unmapped kernel "$scratch/kernel.sections"
   elif [ ! -s "$scratch/high" ]; then
     stock_kernel=$front/kernel.frames

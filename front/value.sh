@@ -55,12 +55,12 @@ cp0_option() {
 
 slot_option() {
   local word=${1,,} parts part
-  word=${word//0x/}
-  IFS=: read -r -a parts <<<"$word"
-  [[ $word =~ ^[0-9]{1,2}(:[0-9a-f]{1,8}){4}$ ]] ||
+  [[ $word =~ ^([0-9]{1,2}|0x[0-9a-f]{1,2})(:(0x)?[0-9a-f]{1,8}){4}$ ]] ||
     wrong "--tlb wants SLOT:PAGEMASK:ENTRYHI:ENTRYLO0:ENTRYLO1, a slot from 0 to 47 and four words in hexadecimal, not '$1'"
-  word=$(printf '05%02x' "$((10#${parts[0]}))")
-  for part in "${parts[@]:1}"; do word+=$(printf '%08x' "$((16#$part))"); done
+  IFS=: read -r -a parts <<<"$word"
+  if [[ $word == 0x* ]]; then word=$((parts[0])); else word=$((10#${parts[0]})); fi
+  word=$(printf '05%02x' "$word")
+  for part in "${parts[@]:1}"; do word+=$(printf '%08x' "$((16#${part#0x}))"); done
   add "--tlb $1" "$word"
 }
 

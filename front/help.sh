@@ -5,7 +5,7 @@ card_help() {
   [ $# -le 1 ] || wrong "one word is wanted, and here are $#; write: ./card help image"
   local word=${1:-card}
   case $word in
-  card | run | state | explain | image | list | test | help) emit "$front/help/$word.txt" ;;
-  *) wrong "there is no help for '$word'; write: ./card help run, or state, explain, image, list, test, help" ;;
+  card | run | state | explain | image | list | test | version | help) emit "$front/help/$word.txt" ;;
+  *) wrong "there is no help for '$word'; write: ./card help run, or state, explain, image, list, test, version, help" ;;
   esac
 }

@@ -66,8 +66,11 @@ build() {
   fi
   if ! built "$name"; then
     touch "$mark.start"
-    [ -x "$root/target/bin/$name" ] ||
+    if [ -x "$root/target/bin/$name" ]; then
+      note "the sources of $name may have changed; what did is proved and built anew"
+    else
       note "proving and building $name from $(crates_of "$name") crates; this takes minutes, the first time only"
+    fi
     (cd "$root" && rt check "$name") 2>&1 9>&- </dev/null | tee "$log" | progress "$name" "$(crates_of "$name")"
     status=${PIPESTATUS[0]}
     [ "$status" -eq 0 ] || fail "$name could not be proved and built; target/front/$name.log has all that rt said"

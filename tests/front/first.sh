@@ -16,7 +16,8 @@ card: 3 of 3: cardrun proved (1 s)' run "$T/worked"
   hold "first build: the answer alone is on standard output" writes 'cardrun answers'
   hold "later runs start at once" says '' run "$T/worked"
   touch -d '1 minute' "$place/repository/crates/word/src/lib.rt"
-  hold "a changed source is proved again" says 'card: 1 of 3: word proved (2 s)
+  hold "a changed source is proved again" says 'card: the sources of cardrun may have changed; what did is proved and built anew
+card: 1 of 3: word proved (2 s)
 card: 2 of 3: image proved (4 s)
 card: 3 of 3: cardrun proved (1 s)' run "$T/worked"
   hold "a program on an emulator" writes 'cardstate answers 01' state "$T/worked" 01

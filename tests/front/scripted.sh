@@ -6,6 +6,7 @@ scripted() {
   examples_are_built
   help_can_be_pasted
   closed_pipes
+  version
   # shellcheck source=tests/front/first.sh
   . "$tests/first.sh"
   first_build
@@ -55,4 +56,11 @@ closed_pipes() {
     hold "closed pipe: ./card $command" [ ! -s "$T/said" ]
   done
   hold "temporary files are gone" [ -z "$(ls "$T/room")" ]
+}
+
+# The version names the commit, the toolchain and each program.
+version() {
+  ./card version >"$T/wrote" 2>"$T/said"
+  hold "version ends well" [ $? -eq 0 ]
+  hold "version says four things" [ "$(cut -d ' ' -f 1 "$T/wrote" | tr '\n' ' ')" = "sources: toolchain: cardrun: cardstate: " ]
 }

@@ -2,7 +2,7 @@
 use Prim.Native.Nat.{ℕ, _%_}
 use mathlib.Core.Bool.{Bool, true, false}
 use lib.Dec.{eqb, leb}
-use Rattle.promise.specs.Pick.{pick, both, either, not}
+use Rattle.promise.specs.Pick.{both, either, not}
 use Rattle.frame.specs.declared.Frame.{Frame}
 use Rattle.frame.specs.declared.Frame.the-variants.{Register, Memory, Budget, Cp0, Slot, NotFrame}
 use Rattle.tlb.specs.PageMask.{legalMask}

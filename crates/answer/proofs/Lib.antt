@@ -2,3 +2,4 @@
 pub mod Laws
 pub mod Once
 pub mod Worked
+pub mod Lengths

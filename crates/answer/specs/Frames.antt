@@ -5,6 +5,8 @@ use mathlib.Core.List.{List, [], _∷_, _++_}
 use lib.Dec.{eqb, ltb}
 use lib.ListN.{getD}
 use Rattle.promise.specs.Pick.{pick}
+use Rattle.frame.specs.Line.{LF}
+use Rattle.frame.specs.Frame.{HI, LO}
 use Rattle.memory.specs.declared.PAddr.{PAddr}
 use Rattle.memory.specs.declared.Eight.{Eight}
 use Rattle.memory.specs.declared.Eight.the-variants.{Ram, Rom, Missing}
@@ -22,13 +24,9 @@ use Rattle.answer.specs.declared.Part.{Part}
 use Rattle.answer.specs.declared.Part.the-variants.{NonZero, Registers, Kept, Slots, Memory}
 use Rattle.answer.specs.Digits.{hexOf}
 
--- a line's end (I1)
-abbrev pub LF : List ℕ
-LF = 10 ∷ []
-
 -- a frame of two fields: its tag (2 digits), the fields, each of so many digits, and LF (I1)
 unfoldable pub frame : ℕ → ℕ → ℕ → ℕ → ℕ → List ℕ
-frame tag n x k y = hexOf 2 tag ++ hexOf n x ++ hexOf k y ++ LF
+frame tag n x k y = hexOf 2 tag ++ hexOf n x ++ hexOf k y ++ LF ∷ []
 
 -- `0f`: the stop's number, and the counted steps (I13)
 abbrev pub stopFrame : ℕ → ℕ → List ℕ
@@ -52,23 +50,13 @@ flag b = pick b 1 0
 
 -- `0a`: whether a slot is pending, its target, and the link bit (house)
 unfoldable pub pendingFrame : Cpu → List ℕ
-pendingFrame c = hexOf 2 0x0a ++ hexOf 2 (flag (c .slot)) ++ hexOf 16 (c .target) ++ hexOf 2 (flag (c .link)) ++ LF
+pendingFrame c = hexOf 2 0x0a ++ hexOf 2 (flag (c .slot)) ++ hexOf 16 (c .target) ++ hexOf 2 (flag (c .link)) ++ LF ∷ []
 
 -- `05`: a slot's number, PageMask, EntryHi, EntryLo0 and EntryLo1 (I8)
 unfoldable pub slotFrame : ℕ → Slot → List ℕ
-slotFrame i s = hexOf 2 0x05 ++ hexOf 2 i ++ hexOf 8 (s .mask) ++ hexOf 8 (s .hi) ++ hexOf 8 (s .lo0) ++ hexOf 8 (s .lo1) ++ LF
+slotFrame i s = hexOf 2 0x05 ++ hexOf 2 i ++ hexOf 8 (s .mask) ++ hexOf 8 (s .hi) ++ hexOf 8 (s .lo0) ++ hexOf 8 (s .lo1) ++ LF ∷ []
 
--- the numbers of HI and LO in frame `01`, after the registers 00 to 1f; PC is the next (I3)
-abbrev pub HI : ℕ
-HI = 0x20
-
-abbrev pub LO : ℕ
-LO = 0x21
-
-abbrev pub PC : ℕ
-PC = 0x22
-
--- what frame `01` of this number holds (I3)
+-- what frame `01` of this number holds (I4)
 unfoldable pub register : Cpu → List ℕ → ℕ → ℕ
 register c regs i = pick (ltb i HI) (getD regs i 0) (pick (eqb i HI) (c .hi) (pick (eqb i LO) (c .lo) (c .pc)))
 
@@ -76,7 +64,7 @@ register c regs i = pick (ltb i HI) (getD regs i 0) (pick (eqb i HI) (c .hi) (pi
 unfoldable pub nonZero : ℕ → ℕ → ℕ → ℕ → List ℕ
 nonZero tag n x value = pick (eqb value 0) [] (frame tag n x 16 value)
 
--- a CP0 register's frame, where it is kept: the value as a doubleword move gives it, Cause without the lines (house; T12, T15)
+-- a CP0 register's frame, where it is kept: the value as a doubleword move gives it, Cause without the lines (house; T11, T15)
 unfoldable pub keptFrame : Cp0 → ℕ → List ℕ
 keptFrame c i = pick (kept? i) (cp0Frame i (moveOut c 0 i)) []
 

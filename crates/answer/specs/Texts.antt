@@ -4,10 +4,11 @@ use mathlib.Core.Bool.{Bool}
 use mathlib.Core.List.{List, [], _++_}
 use lib.Dec.{leb}
 use Rattle.promise.specs.Pick.{pick, both}
+use Rattle.frame.specs.Frame.{PC}
 use Rattle.card.specs.declared.Machine.{Machine}
 use Rattle.card.specs.declared.Ran.{Ran}
 use Rattle.answer.specs.declared.Part.the-variants.{NonZero, Registers, Kept, Slots, Memory}
-use Rattle.answer.specs.Frames.{stopFrame, refusalFrame, registerFrame, pendingFrame, lineOf, each, PC}
+use Rattle.answer.specs.Frames.{stopFrame, refusalFrame, registerFrame, pendingFrame, lineOf, each}
 
 -- the run was refused: numbers 1 to 4 (N2 to N5)
 abbrev pub refused : ℕ → Bool

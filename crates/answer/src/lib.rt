@@ -3,6 +3,9 @@ mod texts;
 
 use cp0::Cp0;
 use effect::Cpu;
+use frame::HI;
+use frame::LF;
+use frame::LO;
 use memory::Eight;
 use memory::PAddr;
 pub use texts::cardrun_text;
@@ -80,7 +83,7 @@ fn put_frame(out: &mut [u8], at: usize, tag: u64, n: u64, x: u64, k: u64, y: u64
     let a = put_hex(&mut *out, at, 2, tag);
     let b = put_hex(&mut *out, a, n, x);
     let c = put_hex(&mut *out, b, k, y);
-    put(&mut *out, c, 10);
+    put(&mut *out, c, LF);
     c + 1
 }
 
@@ -103,7 +106,7 @@ fn put_pending(out: &mut [u8], at: usize, cpu: Cpu) -> usize
     let b = put_hex(&mut *out, a, 2, flag(cpu.slot));
     let c = put_hex(&mut *out, b, 16, cpu.target);
     let d = put_hex(&mut *out, c, 2, flag(cpu.link));
-    put(&mut *out, d, 10);
+    put(&mut *out, d, LF);
     d + 1
 }
 
@@ -118,7 +121,7 @@ fn put_slot(out: &mut [u8], at: usize, i: u64, s: Slot) -> usize
     let d = put_hex(&mut *out, c, 8, s.hi);
     let e = put_hex(&mut *out, d, 8, s.lo0);
     let f = put_hex(&mut *out, e, 8, s.lo1);
-    put(&mut *out, f, 10);
+    put(&mut *out, f, LF);
     f + 1
 }
 
@@ -126,13 +129,13 @@ fn put_slot(out: &mut [u8], at: usize, i: u64, s: Slot) -> usize
 fn register(cpu: Cpu, regs: &[u64; 32], i: usize) -> u64
     ensures { λ r. ⌜ r ≡ F.register cpu (now (regs .entry)) i ⌝ }
 {
-    if i < 32 {
+    if i < HI {
         return regs[i];
     }
-    if i == 32 {
+    if i == HI {
         return cpu.hi;
     }
-    if i == 33 {
+    if i == LO {
         return cpu.lo;
     }
     cpu.pc

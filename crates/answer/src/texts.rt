@@ -12,6 +12,7 @@ use crate::put_pending;
 use card::Ran;
 use cp0::Cp0;
 use effect::Cpu;
+use frame::PC;
 
 // A refusal: only `0e`.
 pub fn refusal_text(out: &mut [u8], number: u8, line: u64) -> usize
@@ -57,7 +58,7 @@ pub fn cardrun_text(out: &mut [u8], ran: Ran) -> usize
         &tlb,
         &none,
     );
-    let end = put_frame(&mut *out, b, 0x01, 2, 0x22, 16, cpu.pc);
+    let end = put_frame(&mut *out, b, 0x01, 2, PC as u64, 16, cpu.pc);
     end
 }
 

@@ -1,15 +1,15 @@
 -- The lines of a text begin with the line up to its first LF: what a loop over a text goes by.
 use Prim.Native.Nat.{ℕ, suc, _+_, _-_, _<_, _≤_}
 use mathlib.Core.Bool.{Bool, true, false}
-use mathlib.Core.Path.{_≡_, refl, sym, ap, _∙_}
+use mathlib.Core.Path.{_≡_, refl, ap, _∙_}
 use mathlib.Core.List.{List, [], _∷_}
 use native.Mathlib.Nat.{le-of-suc-le-suc, not-suc-le-zero}
-use native.Mathlib.Numerals.{add-one}
 use native.Mathlib.Omega.{arith}
+use borrow.Author.Tests.{ltb-true, ltb-false}
 use lib.Dec.{eqb}
 use lib.ListN.{length, take, drop, length-drop, drop-of-length-le}
 use lib.Seq.{take-all, drop-drop}
-use Rattle.frame.specs.Line.{LF, lineOf, Lines, done, unended, line, before, linesOf}
+use Rattle.frame.specs.Line.{LF, lineOf, done, unended, line, before, linesOf, endedLine}
 
 -- of a text that starts with a character, from what is after it
 Next : List ℕ → Type 0
@@ -47,6 +47,21 @@ unfolding Last
 last [] = λ p h. absurd (not-suc-le-zero p)
 last (x ∷ []) = last-one x (eqb x LF) refl
 last (x ∷ y ∷ ys) = last-more x y ys (eqb x LF) refl (last (y ∷ ys))
+
+-- the three forms of a text: nothing; a line that no LF ends; a line that is ended, and what comes after it
+pub data Form (t : List ℕ) : Type 0 where
+  empty : length t ≡ 0 → linesOf t ≡ done → Form t
+  cut : 0 < length t → endedLine t ≡ false → linesOf t ≡ unended (lineOf t) → Form t
+  whole : endedLine t ≡ true → linesOf t ≡ line (lineOf t) (linesOf (drop (suc (length (lineOf t))) t)) → Form t
+
+pub form : (t : List ℕ) → Form t
+unfolding linesOf endedLine Next Last
+form [] = empty refl refl
+form (x ∷ xs) = go (endedLine (x ∷ xs)) refl
+  where
+    go : (b : Bool) → endedLine (x ∷ xs) ≡ b → Form (x ∷ xs)
+    go true e = whole e (next (x ∷ xs) (ltb-true _ _ e))
+    go false e = cut (omega arith) e (last (x ∷ xs) (omega arith) (ltb-false _ _ e))
 
 module _ (text : List ℕ) (at : ℕ) where
   -- what is left of a text, as a part of it

@@ -9,6 +9,16 @@ use Rattle.frame.specs.declared.Frame.{Frame}
 use Rattle.frame.specs.declared.Frame.the-variants.{Register, Memory, Budget, Cp0, Slot, NotFrame}
 use Rattle.frame.specs.Digits.{allHex, number}
 
+-- the numbers of HI, LO and PC in frame `01`, after the registers 00 to 1f (I4)
+abbrev pub HI : ℕ
+HI = 0x20
+
+abbrev pub LO : ℕ
+LO = 0x21
+
+abbrev pub PC : ℕ
+PC = 0x22
+
 -- a line of so many digits that starts with a tag
 unfoldable pub tagged : List ℕ → ℕ → ℕ → Bool
 tagged line tag digits = both (eqb (length line) digits) (eqb (number line 0 2) tag)

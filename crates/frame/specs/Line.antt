@@ -1,7 +1,9 @@
 -- Lines of a text: each is ended by LF.
-use Prim.Native.Nat.{ℕ}
+use Prim.Native.Nat.{ℕ, zero, suc}
+use mathlib.Core.Bool.{Bool}
 use mathlib.Core.List.{List, [], _∷_}
-use lib.Dec.{eqb}
+use lib.Dec.{eqb, ltb}
+use lib.ListN.{length, drop}
 use Rattle.promise.specs.Pick.{pick}
 
 -- the character that ends a line
@@ -29,3 +31,13 @@ before x (line l ls) = line (x ∷ l) ls
 unfoldable pub linesOf : List ℕ → Lines
 linesOf [] = done
 linesOf (x ∷ xs) = pick (eqb x LF) (line [] (linesOf xs)) (before x (linesOf xs))
+
+-- the first line of a text is ended by LF: the text goes on after the line's characters (I1)
+unfoldable pub endedLine : List ℕ → Bool
+endedLine text = ltb (length (lineOf text)) (length text)
+
+-- a text from its line n on, lines being counted from 1; there is no line 0 (I1)
+unfoldable pub fromLine : List ℕ → ℕ → List ℕ
+fromLine text zero = []
+fromLine text (suc zero) = text
+fromLine text (suc (suc n)) = drop (suc (length (lineOf (fromLine text (suc n))))) (fromLine text (suc n))

@@ -34,7 +34,14 @@ pub enum Frame {
 }
 
 // The character that ends a line.
-const LF: u8 = 10;
+pub const LF: u8 = 10;
+
+// The numbers of HI, LO and PC in frame `01`, after the registers 00 to 1f.
+pub const HI: usize = 0x20;
+
+pub const LO: usize = 0x21;
+
+pub const PC: usize = 0x22;
 
 // The digits: from 0 to 9, and from a to f.
 const ZERO: u64 = 48;

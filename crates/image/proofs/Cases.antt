@@ -1,6 +1,7 @@
 -- Of one line, 6, 7, 8 or 0 is given exactly in its case (N14, N16).
-use Prim.Native.Nat.{ℕ, _<_, _≤_}
+use Prim.Native.Nat.{ℕ, _≤_}
 use mathlib.Core.Bool.{Bool, true, false}
+use mathlib.Core.Logic.{_⊎_, inl, inr}
 use mathlib.Core.Path.{_≡_, refl}
 use native.Mathlib.Omega.{arith}
 use Rattle.promise.specs.Pick.{pick}
@@ -37,11 +38,11 @@ none-of true false z h = let n : ⊥ = omega arith in absurd n
 none-of false y z h = let n : ⊥ = omega arith in absurd n
 
 -- no other number
-among : (x y z : Bool) (k : ℕ) → tested x y z ≡ k → 0 < k → 6 ≤ k
-among true true true k h l = omega arith
-among true true false k h l = omega arith
-among true false z k h l = omega arith
-among false y z k h l = omega arith
+among : (x y z : Bool) → (tested x y z ≡ 0) ⊎ ((6 ≤ tested x y z) × (tested x y z ≤ 8))
+among true true true = inr (omega arith, omega arith)
+among true true false = inl refl
+among true false z = inr (omega arith, omega arith)
+among false y z = inr (omega arith, omega arith)
 
 module _ (after : Bool) (f : Frame) where
   pub given-6 : refusalOf after f ≡ 6 → isFrame f ≡ false
@@ -76,6 +77,6 @@ module _ (after : Bool) (f : Frame) where
   unfolding refusalOf
   gives-0 p q r = simp (p, q, r)
 
-  pub line-among : 0 < refusalOf after f → 6 ≤ refusalOf after f
+  pub line-among : (refusalOf after f ≡ 0) ⊎ ((6 ≤ refusalOf after f) × (refusalOf after f ≤ 8))
   unfolding refusalOf
-  line-among h = among (isFrame f) (allowed f) after (refusalOf after f) refl h
+  line-among = among (isFrame f) (allowed f) after

@@ -1,136 +1,143 @@
--- Of a text, nothing is refused exactly where its lines make a whole image, and 1 and 5 are given exactly in their cases (N14).
-use Prim.Native.Nat.{ℕ, _+_, _<_, _≤_}
+-- Refusals of an image are exact: the two lengths are tested first, and then the lines decide.
+use Prim.Native.Nat.{ℕ, _<_, _≤_}
 use mathlib.Core.Bool.{Bool, true, false}
-use mathlib.Core.Path.{_≡_, refl, sym, ap, _∙_}
 use mathlib.Core.List.{List}
+use mathlib.Core.Logic.{_↔_, _⊎_, inl, inr}
+use mathlib.Core.Path.{_≡_, refl, sym, ap, _∙_, subst, subst⁻¹}
 use native.Mathlib.Omega.{arith}
-use borrow.Author.Tests.{eq-eqb, ne-eqb, eqb-true, eqb-false, leb-true, leb-false, lt-leb}
+use borrow.Author.Tests.{eq-eqb, ne-eqb, eqb-true, eqb-false, leb-true, leb-false, le-leb, lt-leb}
 use lib.Dec.{eqb, leb}
 use lib.ListN.{length}
-use Rattle.promise.specs.Pick.{pick, both, either}
-use Rattle.frame.specs.Line.{Lines, done, unended, line, linesOf}
-use Rattle.frame.specs.Frame.{frameOf}
-use Rattle.image.specs.Allowed.{allowed}
-use Rattle.image.specs.Refusals.{refusal, none, isFrame, isBudget, refusalOf, firstOf, size, imageRefusal}
-use Rattle.image.specs.Whole.{ended, whole}
-use Rattle.tlb.proofs.StaysInRange.{both-true}
-use Rattle.image.proofs.Cases.{given-0, gives-0, line-among}
-use Rattle.image.proofs.Turns.{after-refused}
-use Rattle.image.proofs.InRange.{false-not-true}
-
--- ---- the lines: none is refused exactly where they make a whole image
-
--- after the budget nothing may follow
-over : (ls : Lines) (n : ℕ) → firstOf ls n true .number ≡ 0 → ended ls ≡ true
-unfolding firstOf ended
-over done n h = refl
-over (unended l) n h = let z : ⊥ = omega arith in absurd z
-over (line l ls) n h = go (eqb (refusalOf true (frameOf l)) 0) refl
-  where
-    go : (t : Bool) → eqb (refusalOf true (frameOf l)) 0 ≡ t → false ≡ true
-    go true e = absurd (after-refused (frameOf l) (isFrame (frameOf l)) (allowed (frameOf l)) refl refl (eqb-true _ _ e))
-    go false e = absurd (eqb-false _ _ e (simp e at h))
-
-Accepts : Lines → Type 0
-Accepts ls = (n : ℕ) → firstOf ls n false .number ≡ 0 → whole ls ≡ true
-
-accepts-line : (l : List ℕ) (ls : Lines) → Accepts ls → (n : ℕ) (t b : Bool) → eqb (refusalOf false (frameOf l)) 0 ≡ t → isBudget (frameOf l) ≡ b → firstOf (line l ls) n false .number ≡ 0 → whole (line l ls) ≡ true
-unfolding Accepts firstOf whole
-accepts-line l ls later n true true e b h =
-    let g = given-0 false (frameOf l) (eqb-true _ _ e) in
-    simp (g .0, g .1 .0, b, over ls (n + 1) (simp (e, b) at h))
-accepts-line l ls later n true false e b h =
-    let g = given-0 false (frameOf l) (eqb-true _ _ e) in
-    simp (g .0, g .1 .0, b, later (n + 1) (simp (e, b) at h))
-accepts-line l ls later n false x e b h = absurd (eqb-false _ _ e (simp e at h))
-
-accepts : (ls : Lines) → Accepts ls
-unfolding Accepts firstOf
-accepts done = λ n h. let z : ⊥ = omega arith in absurd z
-accepts (unended l) = λ n h. let z : ⊥ = omega arith in absurd z
-accepts (line l ls) = λ n h. accepts-line l ls (accepts ls) n (eqb (refusalOf false (frameOf l)) 0) (isBudget (frameOf l)) refl refl h
-
-pub accepted-is-whole : (ls : Lines) (n : ℕ) → firstOf ls n false .number ≡ 0 → whole ls ≡ true
-unfolding Accepts
-accepted-is-whole ls n h = accepts ls n h
-
-ended-passes : (ls : Lines) (n : ℕ) → ended ls ≡ true → firstOf ls n true ≡ none
-unfolding firstOf ended
-ended-passes done n h = refl
-ended-passes (unended l) n h = absurd (false-not-true h)
-ended-passes (line l ls) n h = absurd (false-not-true h)
-
-Passes : Lines → Type 0
-Passes ls = (n : ℕ) → whole ls ≡ true → firstOf ls n false ≡ none
-
-passes-line : (l : List ℕ) (ls : Lines) → Passes ls → (n : ℕ) (b : Bool) → isBudget (frameOf l) ≡ b → whole (line l ls) ≡ true → firstOf (line l ls) n false ≡ none
-unfolding Passes firstOf whole
-passes-line l ls later n b e h =
-    let x = both-true (isFrame (frameOf l)) (both (allowed (frameOf l)) (pick (isBudget (frameOf l)) (ended ls) (whole ls))) h in
-    let y = both-true (allowed (frameOf l)) (pick (isBudget (frameOf l)) (ended ls) (whole ls)) (x .1) in
-    simp (eq-eqb _ _ (gives-0 false (frameOf l) (x .0) (y .0) refl)) (go b e (y .1))
-  where
-    go : (t : Bool) → isBudget (frameOf l) ≡ t → pick (isBudget (frameOf l)) (ended ls) (whole ls) ≡ true → firstOf ls (n + 1) (isBudget (frameOf l)) ≡ none
-    go true q w = simp q (ended-passes ls (n + 1) (simp q at w))
-    go false q w = simp q (later (n + 1) (simp q at w))
-
-passes : (ls : Lines) → Passes ls
-unfolding Passes whole
-passes done = λ n h. absurd (false-not-true h)
-passes (unended l) = λ n h. absurd (false-not-true h)
-passes (line l ls) = λ n h. passes-line l ls (passes ls) n (isBudget (frameOf l)) refl h
-
-pub whole-is-accepted : (ls : Lines) (n : ℕ) → whole ls ≡ true → firstOf ls n false ≡ none
-unfolding Passes
-whole-is-accepted ls n h = passes ls n h
-
--- ---- the lengths: 1 and 5
-
--- the lines give no number below 6
-Above : Lines → Type 0
-Above ls = (n : ℕ) (after : Bool) → 0 < firstOf ls n after .number → 6 ≤ firstOf ls n after .number
-
-above-line : (l : List ℕ) (ls : Lines) → Above ls → (n : ℕ) (after t : Bool) → eqb (refusalOf after (frameOf l)) 0 ≡ t → 0 < firstOf (line l ls) n after .number → 6 ≤ firstOf (line l ls) n after .number
-unfolding Above firstOf
-above-line l ls later n after true e h = simp e (later (n + 1) (either after (isBudget (frameOf l))) (simp e at h))
-above-line l ls later n after false e h = simp e (line-among after (frameOf l) (simp e at h))
-
-above : (ls : Lines) → Above ls
-unfolding Above firstOf
-above done = λ n after. go n after
-  where
-    go : (n : ℕ) (after : Bool) → 0 < firstOf done n after .number → 6 ≤ firstOf done n after .number
-    go n true h = let z : ⊥ = omega arith in absurd z
-    go n false h = omega arith
-above (unended l) = λ n after h. omega arith
-above (line l ls) = λ n after h. above-line l ls (above ls) n after (eqb (refusalOf after (frameOf l)) 0) refl h
+use Rattle.frame.specs.Line.{fromLine}
+use Rattle.image.specs.declared.Refusal.{Refusal}
+use Rattle.image.specs.Refusals.{refusal, size, imageRefusal}
+use Rattle.image.specs.Image.{imageOf, ramAfter}
+use Rattle.image.specs.Exact.{NoFrame, BadValue, AfterBudget, NoBudget, Whole, Fits, Gives, Exact}
+use Rattle.image.proofs.Reached.{firstFrom, start}
+use Rattle.image.proofs.Given.{Told, walk, gives-zero, gives-six, gives-seven, gives-eight}
+use Rattle.image.proofs.InRange.{image-in-range}
 
 module _ (text ram : List ℕ) where
-  pub gives-1 : (length ram ≡ 65536 → ⊥) → imageRefusal text ram ≡ refusal 1 0
+  -- ---- what each length leads to
+
+  bad-ram : (length ram ≡ 65536 → ⊥) → imageRefusal text ram ≡ refusal 1 0
   unfolding imageRefusal
-  gives-1 h = simp (ne-eqb _ _ h)
+  bad-ram h = simp (ne-eqb _ _ h)
 
-  pub gives-5 : length ram ≡ 65536 → 65536 < length text → imageRefusal text ram ≡ refusal 5 0
+  too-long : length ram ≡ 65536 → 65536 < length text → imageRefusal text ram ≡ refusal 5 0
   unfolding imageRefusal
-  gives-5 p q = simp (eq-eqb _ _ p, lt-leb _ _ q)
+  too-long p q = simp (eq-eqb _ _ p, lt-leb _ _ q)
 
-  below-6 : (k x : ℕ) → 0 < k → k < 6 → x ≡ k → (0 < x → 6 ≤ x) → ⊥
-  below-6 k x p q e f = let z : 6 ≤ x = f (omega arith) in omega arith
+  by-lines : Fits text ram → imageRefusal text ram ≡ firstFrom text 1 false
+  unfolding imageRefusal fromLine
+  by-lines f = simp (eq-eqb _ _ (f .0), le-leb _ _ (f .1))
 
-  given-1-by : (x y : Bool) → eqb (length ram) size ≡ x → leb (length text) size ≡ y → imageRefusal text ram .number ≡ 1 → length ram ≡ 65536 → ⊥
-  unfolding imageRefusal Above
-  given-1-by true true p q h = λ _. below-6 1 _ (omega arith) (omega arith) (simp (p, q) at h) (above (linesOf text) 1 false)
-  given-1-by true false p q h = let z : _≡_ {A = ℕ} 5 1 = simp (p, q) at h in λ _. omega arith
-  given-1-by false y p q h = eqb-false _ _ p
+  -- ---- what is given is given in its case
 
-  pub given-1 : imageRefusal text ram .number ≡ 1 → length ram ≡ 65536 → ⊥
-  given-1 = given-1-by (eqb (length ram) size) (leb (length text) size) refl refl
+  record Shown (number n : ℕ) : Type 0 where
+    zero : number ≡ 0 → Fits text ram × Whole text × (n ≡ 0)
+    one : number ≡ 1 → (length ram ≡ 65536 → ⊥) × (n ≡ 0)
+    five : number ≡ 5 → (length ram ≡ 65536) × (65536 < length text) × (n ≡ 0)
+    six : number ≡ 6 → Fits text ram × NoFrame text n
+    seven : number ≡ 7 → Fits text ram × BadValue text n
+    eight : number ≡ 8 → Fits text ram × (AfterBudget text n ⊎ NoBudget text n)
+    no-other : (number ≤ 1) ⊎ ((5 ≤ number) × (number ≤ 8))
 
-  given-5-by : (x y : Bool) → eqb (length ram) size ≡ x → leb (length text) size ≡ y → imageRefusal text ram .number ≡ 5 → (length ram ≡ 65536) × (65536 < length text)
-  unfolding imageRefusal Above
-  given-5-by true true p q h = absurd (below-6 5 _ (omega arith) (omega arith) (simp (p, q) at h) (above (linesOf text) 1 false))
-  given-5-by true false p q h = (eqb-true _ _ p, leb-false _ _ q)
-  given-5-by false y p q h = let z : _≡_ {A = ℕ} 1 5 = simp p at h in absurd (omega arith)
+  abbrev Shows : Refusal → Type 0
+  Shows r = Shown (r .number) (r .line)
 
-  pub given-5 : imageRefusal text ram .number ≡ 5 → (length ram ≡ 65536) × (65536 < length text)
-  given-5 = given-5-by (eqb (length ram) size) (leb (length text) size) refl refl
+  shows-one : (length ram ≡ 65536 → ⊥) → Shown 1 0
+  shows-one h =
+      record {
+        zero = λ e. absurd (omega arith);
+        one = λ e. (h, refl);
+        five = λ e. absurd (omega arith);
+        six = λ e. absurd (omega arith);
+        seven = λ e. absurd (omega arith);
+        eight = λ e. absurd (omega arith);
+        no-other = inl (omega arith);
+      }
+
+  shows-five : length ram ≡ 65536 → 65536 < length text → Shown 5 0
+  shows-five p q =
+      record {
+        zero = λ e. absurd (omega arith);
+        one = λ e. absurd (omega arith);
+        five = λ e. (p, q, refl);
+        six = λ e. absurd (omega arith);
+        seven = λ e. absurd (omega arith);
+        eight = λ e. absurd (omega arith);
+        no-other = inr (omega arith, omega arith);
+      }
+
+  shows-lines : Fits text ram → (number n : ℕ) → Told text number n → Shown number n
+  shows-lines f number n t =
+      record {
+        zero = λ e. (f, t .zero e .0, t .zero e .1);
+        one = λ e. absurd (beside (omega arith) (omega arith) (t .no-other));
+        five = λ e. absurd (beside (omega arith) (omega arith) (t .no-other));
+        six = λ e. (f, t .six e);
+        seven = λ e. (f, t .seven e);
+        eight = λ e. (f, t .eight e);
+        no-other = all (t .no-other);
+      }
+    where
+      beside : 0 < number → number < 6 → (number ≡ 0) ⊎ ((6 ≤ number) × (number ≤ 8)) → ⊥
+      beside l u (inl z) = omega arith
+      beside l u (inr z) = omega arith
+
+      all : (number ≡ 0) ⊎ ((6 ≤ number) × (number ≤ 8)) → (number ≤ 1) ⊎ ((5 ≤ number) × (number ≤ 8))
+      all (inl z) = inl (omega arith)
+      all (inr z) = inr (omega arith, omega arith)
+
+  shows : Shows (imageRefusal text ram)
+  shows = go (eqb (length ram) size) (leb (length text) size) refl refl
+    where
+      go : (x y : Bool) → eqb (length ram) size ≡ x → leb (length text) size ≡ y → Shows (imageRefusal text ram)
+      go false y p q = subst⁻¹ Shows (bad-ram (eqb-false _ _ p)) (shows-one (eqb-false _ _ p))
+      go true false p q = subst⁻¹ Shows (too-long (eqb-true _ _ p) (leb-false _ _ q)) (shows-five (eqb-true _ _ p) (leb-false _ _ q))
+      go true true p q =
+          let f : Fits text ram = (eqb-true _ _ p, leb-true _ _ q) in
+          subst⁻¹ Shows (by-lines f) (shows-lines f _ _ (walk text (length (fromLine text 1)) 1 false (omega arith) (start text)))
+
+  -- ---- the image has the refusal's number and line
+
+  number-is : imageOf text ram .number ≡ imageRefusal text ram .number
+  unfolding imageOf
+  number-is = go (eqb (imageRefusal text ram .number) 0) refl
+    where
+      go : (b : Bool) → eqb (imageRefusal text ram .number) 0 ≡ b → imageOf text ram .number ≡ imageRefusal text ram .number
+      go true e = simp e (sym (eqb-true _ _ e))
+      go false e = simp e
+
+  line-is : imageOf text ram .line ≡ imageRefusal text ram .line
+  unfolding imageOf
+  line-is = go (eqb (imageRefusal text ram .number) 0) refl
+    where
+      go : (b : Bool) → eqb (imageRefusal text ram .number) 0 ≡ b → imageOf text ram .line ≡ imageRefusal text ram .line
+      go true e = simp e (sym (shows .zero (eqb-true _ _ e) .2))
+      go false e = simp e
+
+  just : (P : ℕ → Type 0) (k : ℕ) → (imageRefusal text ram .number ≡ k → P (imageRefusal text ram .line)) → ((n : ℕ) → P n → imageRefusal text ram ≡ refusal k n) → (n : ℕ) → Gives text ram k n ↔ P n
+  just P k to from n = (
+    λ g. subst P (sym line-is ∙ g .1) (to (sym number-is ∙ g .0)),
+    λ c. (number-is ∙ ap (λ (r : Refusal). r .number) (from n c), line-is ∙ ap (λ (r : Refusal). r .line) (from n c)),
+  )
+
+  unchanged : 1 ≤ imageOf text ram .number → ramAfter text ram ≡ ram
+  unfolding ramAfter
+  unchanged l = simp (ne-eqb (imageRefusal text ram .number) 0 (λ (z : imageRefusal text ram .number ≡ 0). omega (arith, number-is)))
+
+  pub exact : Exact text ram
+  exact =
+      record {
+        zero = just _ 0 (shows .zero) (λ n c. by-lines (c .0) ∙ gives-zero text (c .1) ∙ ap (refusal 0) (sym (c .2)));
+        one = just _ 1 (shows .one) (λ n c. bad-ram (c .0) ∙ ap (refusal 1) (sym (c .1)));
+        five = just _ 5 (shows .five) (λ n c. too-long (c .0) (c .1) ∙ ap (refusal 5) (sym (c .2)));
+        six = just _ 6 (shows .six) (λ n c. by-lines (c .0) ∙ gives-six text n (c .1));
+        seven = just _ 7 (shows .seven) (λ n c. by-lines (c .0) ∙ gives-seven text n (c .1));
+        eight = just _ 8 (shows .eight) (λ n c. by-lines (c .0) ∙ gives-eight text n (c .1));
+        no-other = subst⁻¹ (λ (k : ℕ). (k ≤ 1) ⊎ ((5 ≤ k) × (k ≤ 8))) number-is (shows .no-other);
+        same-ram = unchanged;
+        in-range = image-in-range text ram;
+      }

@@ -1,17 +1,17 @@
 -- A machine from an image is always in range, so that a run of it never refuses it with 4.
-use Prim.Native.Nat.{ℕ, _+_, _<_}
+use Prim.Native.Nat.{ℕ, _+_}
 use mathlib.Core.Bool.{Bool, true, false}
-use mathlib.Core.Path.{_≡_, refl, sym, ap, _∙_, subst}
+use mathlib.Core.Path.{_≡_, refl, sym, _∙_}
 use mathlib.Core.List.{List, [], _∷_}
 use native.Mathlib.Omega.{arith}
-use borrow.Author.Tests.{eq-eqb, ne-eqb, eqb-true, eqb-false}
+use borrow.Author.Tests.{eq-eqb, eqb-true, eqb-false}
 use lib.Count.{ones, trailingZeros}
 use lib.Dec.{eqb, ltb, leb}
 use lib.ListN.{length, getD, set, length-set}
 use lib.Seq.{getD-set-other}
-use Rattle.promise.specs.Pick.{pick, both, either, not}
+use Rattle.promise.specs.Pick.{both, either}
 use Rattle.frame.specs.Line.{Lines, done, unended, line, linesOf}
-use Rattle.frame.specs.Frame.{frameOf}
+use Rattle.frame.specs.Frame.{HI, LO, PC, frameOf}
 use Rattle.frame.specs.declared.Frame.{Frame}
 use Rattle.frame.specs.declared.Frame.the-variants.{Register, Memory, Budget, Cp0, Slot, NotFrame}
 use Rattle.tlb.specs.declared.SlotWrite.the-variants.{Put}
@@ -22,16 +22,17 @@ use Rattle.tlb.specs.Slot.{slotAt, putSlot, setSlot}
 use Rattle.tlb.proofs.StaysInRange.{both-true, put-in-range}
 use Rattle.cp0.specs.declared.Move.{Move}
 use Rattle.cp0.specs.declared.Move.the-variants.{Built, NotBuilt}
-use Rattle.cp0.specs.Moves.{checkMove, moveIn}
+use Rattle.cp0.specs.Registers.{kept?}
+use Rattle.cp0.specs.Moves.{checkMove}
 use Rattle.cp0.specs.Range.{cp0InRange}
 use Rattle.cp0.proofs.KeepsMoves.{moved-in-range}
 use Rattle.cp0.proofs.KeepsRange.{fresh-in-range}
 use Rattle.effect.specs.declared.Cpu.{Cpu}
 use Rattle.card.specs.declared.Machine.{Machine}
 use Rattle.card.specs.Machine.{fresh, freshSlots, inRange, cpuInRange}
-use Rattle.image.specs.Allowed.{HI, LO, PC, built, keptNumber, registerAllowed, moveAllowed, slotAllowed, allowed}
-use Rattle.image.specs.Refusals.{isFrame, isBudget, refusalOf, firstOf, imageRefusal, refusal, size}
-use Rattle.image.specs.Acts.{regsSet, cpuSet, moved, Loaded, loaded, act, acts}
+use Rattle.image.specs.Allowed.{built, registerAllowed, moveAllowed, slotAllowed, allowed}
+use Rattle.image.specs.Refusals.{isFrame, isBudget, refusalOf, firstOf, imageRefusal, size}
+use Rattle.image.specs.Acts.{regsSet, cpuSet, moved, Loaded, act, acts}
 use Rattle.image.specs.Image.{loadedBy, imageOf}
 
 pub false-not-true : false ≡ true → ⊥
@@ -110,7 +111,7 @@ act-sound (Cp0 number value) s a h =
     record {
       r0 = h .r0;
       cpu = h .cpu;
-      cp0 = moved-in-range (s .machine .cp0) number value (is-built _ (both-true (keptNumber number) (built (checkMove number value)) a .1)) (h .cp0);
+      cp0 = moved-in-range (s .machine .cp0) number value (is-built _ (both-true (kept? number) (built (checkMove number value)) a .1)) (h .cp0);
       tlb = h .tlb;
       slots = h .slots;
     }

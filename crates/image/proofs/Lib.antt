@@ -4,4 +4,6 @@ pub mod Reading
 pub mod Once
 pub mod InRange
 pub mod Cases
+pub mod Reached
+pub mod Given
 pub mod Exact

@@ -8,11 +8,10 @@ use borrow.Author.Tests.{eq-eqb, ne-eqb, ltb-true, ltb-false}
 use lib.Dec.{ltb}
 use lib.ListN.{length, take, drop, replicate}
 use Rattle.promise.specs.Pick.{pick, either}
-use Rattle.frame.specs.Line.{lineOf, Lines, done, unended, line, linesOf}
+use Rattle.frame.specs.Line.{lineOf, Lines, line, linesOf}
 use Rattle.frame.specs.Frame.{frameOf}
 use Rattle.frame.specs.declared.Frame.{Frame}
 use Rattle.frame.proofs.Lines.{left-is, lines-next, lines-last, lines-done}
-use Rattle.image.specs.declared.Refusal.{Refusal}
 use Rattle.image.specs.Allowed.{allowed}
 use Rattle.image.specs.Refusals.{refusal, none, isFrame, isBudget, refusalOf, firstOf}
 use Rattle.card.specs.declared.Machine.{Machine}

@@ -17,11 +17,10 @@ use Rattle.effect.specs.After.{cpuOf}
 use Rattle.card.specs.declared.Machine.{Machine}
 use Rattle.card.specs.Machine.{machine}
 use Rattle.frame.specs.Line.{Lines, done, unended, line}
-use Rattle.frame.specs.Frame.{frameOf}
+use Rattle.frame.specs.Frame.{HI, LO, PC, frameOf}
 use Rattle.frame.specs.declared.Frame.{Frame}
 use Rattle.frame.specs.declared.Frame.the-variants.{Register, Memory, Budget, Cp0, Slot, NotFrame}
 use Rattle.image.specs.declared.Acted.{Acted}
-use Rattle.image.specs.Allowed.{HI, LO, PC}
 
 -- 00 to 1f set a register (I4)
 unfoldable pub regsSet : List ℕ → ℕ → ℕ → List ℕ

@@ -2,32 +2,20 @@
 use Prim.Native.Nat.{ℕ, _%_}
 use mathlib.Core.Bool.{Bool, true, false}
 use lib.Dec.{eqb, leb}
-use Rattle.promise.specs.Pick.{pick, both, either, not}
+use Rattle.promise.specs.Pick.{both, either, not}
+use Rattle.frame.specs.Frame.{PC}
 use Rattle.frame.specs.declared.Frame.{Frame}
 use Rattle.frame.specs.declared.Frame.the-variants.{Register, Memory, Budget, Cp0, Slot, NotFrame}
 use Rattle.tlb.specs.PageMask.{legalMask}
 use Rattle.cp0.specs.declared.Move.{Move}
 use Rattle.cp0.specs.declared.Move.the-variants.{Built, NotBuilt}
+use Rattle.cp0.specs.Registers.{kept?}
 use Rattle.cp0.specs.Moves.{checkMove}
-
--- the CP0 registers that are kept: 0 to 6, 8 to 17 and 28 to 30 (T11)
-unfoldable pub keptNumber : ℕ → Bool
-keptNumber n = either (leb n 6) (either (both (leb 8 n) (leb n 17)) (both (leb 28 n) (leb n 30)))
 
 -- a move that would not be stop 18 (N12)
 abbrev pub built : Move → Bool
 built Built = true
 built NotBuilt = false
-
--- the numbers of HI, LO and PC in frame `01` (I4)
-abbrev pub HI : ℕ
-HI = 0x20
-
-abbrev pub LO : ℕ
-LO = 0x21
-
-abbrev pub PC : ℕ
-PC = 0x22
 
 -- `01`: a register, HI, LO or PC; r0 only with value 0 (I4)
 unfoldable pub registerAllowed : ℕ → ℕ → Bool
@@ -37,9 +25,9 @@ registerAllowed number value = both (leb number PC) (either (not (eqb number 0))
 unfoldable pub addressAllowed : ℕ → Bool
 addressAllowed address = both (eqb (address % 8) 0) (leb address 0xfff8)
 
--- `04`: a number that is kept, and a move that would not be 18 (I7)
+-- `04`: a number that is kept (T11), and a move that would not be 18 (I7)
 unfoldable pub moveAllowed : ℕ → ℕ → Bool
-moveAllowed number value = both (keptNumber number) (built (checkMove number value))
+moveAllowed number value = both (kept? number) (built (checkMove number value))
 
 -- `05`: a slot of at most 2f, and a legal mask (I8)
 unfoldable pub slotAllowed : ℕ → ℕ → Bool

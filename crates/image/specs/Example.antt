@@ -1,10 +1,9 @@
 -- Document 01's worked image, which holds of the rules by computation (I16).
 use Prim.Native.Nat.{ℕ}
-use mathlib.Core.Bool.{Bool, true, false}
+use mathlib.Core.Bool.{false}
 use mathlib.Core.Path.{_≡_, refl}
 use mathlib.Core.List.{List, [], _∷_}
-use lib.ListN.{getD}
-use Rattle.frame.specs.Line.{lineOf, Lines, before, linesOf}
+use Rattle.frame.specs.Line.{lineOf, before, linesOf}
 use Rattle.frame.specs.Digits.{hex?, digit, allHex, numberFrom, number}
 use Rattle.frame.specs.Frame.{tagged, framed, frameOf}
 use Rattle.image.specs.Allowed.{registerAllowed, addressAllowed, allowed}

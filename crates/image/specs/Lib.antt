@@ -1,7 +1,7 @@
--- The rulebook's images: which frames are allowed, which texts are refused and where, what a whole image is, what frames do, the image of a text, and the worked example.
+-- The rulebook's images: which frames are allowed, which texts are refused and where, what frames do, the image of a text, the exact cases of the refusals, and the worked example.
 pub mod Allowed
 pub mod Refusals
-pub mod Whole
 pub mod Acts
 pub mod Image
+pub mod Exact
 pub mod Example

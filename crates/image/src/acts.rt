@@ -1,11 +1,11 @@
 // What frames do to the machine, to RAM and to the budget.
 use crate::Acted;
-use crate::allowed::HI;
-use crate::allowed::LO;
-use crate::allowed::PC;
 use cp0::Cp0;
 use effect::Cpu;
 use frame::Frame;
+use frame::HI;
+use frame::LO;
+use frame::PC;
 use memory::PAddr;
 use tlb::Slot;
 use tlb::SlotWrite;

@@ -1,34 +1,9 @@
 // Which values a frame may have; any other is refusal 7.
 use cp0::Move;
 use frame::Frame;
+use frame::PC;
 ghost use mathlib.Core.Path.{_≡_};
 ghost use Rattle.image.specs.Allowed as W;
-
-// The numbers of HI, LO and PC in frame `01`.
-pub const HI: usize = 0x20;
-
-pub const LO: usize = 0x21;
-
-pub const PC: usize = 0x22;
-
-// Whether a CP0 register is kept.
-fn kept_number(n: usize) -> bool
-    ensures { λ r. ⌜ r ≡ W.keptNumber n ⌝ }
-{
-    if n <= 6 {
-        return true;
-    }
-    if n < 8 {
-        return false;
-    }
-    if n <= 17 {
-        return true;
-    }
-    if n < 28 {
-        return false;
-    }
-    n <= 30
-}
 
 // `01`: a register, HI, LO or PC; r0 only with value 0.
 fn register_allowed(number: usize, value: u64) -> bool
@@ -57,7 +32,7 @@ fn address_allowed(address: u64) -> bool
 fn move_allowed(number: usize, value: u64) -> bool
     ensures { λ r. ⌜ r ≡ W.moveAllowed number value ⌝ }
 {
-    if !kept_number(number) {
+    if !cp0::kept(number) {
         return false;
     }
     match cp0::check_move(number, value) {

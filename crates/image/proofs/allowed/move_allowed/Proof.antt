@@ -6,12 +6,12 @@ use borrow.Author.Needs.{needs}
 use Rattle.image.proofs.allowed.move_allowed.Statement.{statement}
 use Rattle.image.proofs.allowed.move_allowed.Tie as tie
 
-kept-number-requires : tie.Need-kept-number-requires
-kept-number-requires c κs = search needs
+kept-requires : tie.Need-kept-requires
+kept-requires c κs = search needs
 
 returns : tie.Need-returns
 unfolding moveAllowed
-returns c = simp (sym (c .before .kept-number .ensures) ∙ not-true _ (c .if1 .taken))
+returns c = simp (sym (c .before .kept .ensures) ∙ not-true _ (c .if1 .taken))
 
 check-move-requires : tie.Need-check-move-requires
 check-move-requires c κs = search needs
@@ -24,17 +24,17 @@ enum-told-2 c = search needs
 
 returns-2 : tie.Need-returns-2
 unfolding moveAllowed
-returns-2 c = simp (sym (c .before .before .before .before .kept-number .ensures) ∙ not-false _ (c .before .before .before .if1 .left), sym (c .before .before .check-move .ensures) ∙ c .enum-told .given .1)
+returns-2 c = simp (sym (c .before .before .before .before .kept .ensures) ∙ not-false _ (c .before .before .before .if1 .left), sym (c .before .before .check-move .ensures) ∙ c .enum-told .given .1)
 
 returns-3 : tie.Need-returns-3
 unfolding moveAllowed
-returns-3 c = simp (sym (c .before .before .before .before .kept-number .ensures) ∙ not-false _ (c .before .before .before .if1 .left), sym (c .before .before .check-move .ensures) ∙ c .enum-told2 .given .1)
+returns-3 c = simp (sym (c .before .before .before .before .kept .ensures) ∙ not-false _ (c .before .before .before .if1 .left), sym (c .before .before .check-move .ensures) ∙ c .enum-told2 .given .1)
 
 pub move-allowed-spec : {M : Type 1} → statement M
 move-allowed-spec =
     tie.close
     (tie.spec
-    kept-number-requires
+    kept-requires
     returns
     check-move-requires
     enum-told

@@ -1,5 +1,6 @@
 pub mod Near
-pub mod Effects
+pub mod Same
+pub mod Good
 pub mod Step
 pub mod Isolation
 pub mod Example

@@ -37,9 +37,10 @@ use Rattle.card.specs.Step.{Out, apply, stepOf}
 use Rattle.isolation.specs.Reach.{Reached, ReachedDirty, SameReached, OnlyDirtyChanged}
 use Rattle.isolation.specs.Isolation.{inUser, asid}
 use Rattle.isolation.proofs.Near.{reached-near, dirty-near}
-use Rattle.isolation.proofs.Effects.{Calm, Confined, Good, effect-same, effect-good}
-use Rattle.isolation.proofs.Effects.Calm.{next, branch, skip, hilo, link, enter, stay}
-use Rattle.isolation.proofs.Effects.Confined.{nowhere, within}
+use Rattle.isolation.proofs.Same.{effect-same}
+use Rattle.isolation.proofs.Good.{Calm, Confined, Good, effect-good}
+use Rattle.isolation.proofs.Good.Calm.{next, branch, skip, hilo, link, enter, stay}
+use Rattle.isolation.proofs.Good.Confined.{nowhere, within}
 
 -- ---- memory
 

@@ -1,7 +1,7 @@
 -- Texts are bounded: each line of a part has a most, and the lines of a part have their sum.
 use Prim.Native.Nat.{ℕ, zero, suc, _+_, _*_, _≤_}
 use mathlib.Core.Bool.{Bool, true, false}
-use mathlib.Core.List.{List, [], _∷_, _++_}
+use mathlib.Core.List.{List, []}
 use mathlib.Core.Path.{_≡_, refl}
 use native.Mathlib.Omega.{arith}
 use lib.Dec.{eqb}
@@ -18,8 +18,7 @@ use Rattle.card.specs.declared.Machine.{Machine}
 use Rattle.card.specs.declared.Ran.{Ran}
 use Rattle.answer.specs.declared.Part.{Part}
 use Rattle.answer.specs.declared.Part.the-variants.{NonZero, Registers, Kept, Slots, Memory}
-use Rattle.answer.specs.Digits.{hexOf}
-use Rattle.answer.specs.Frames.{frame, stopFrame, refusalFrame, registerFrame, pendingFrame, slotFrame, register, nonZero, keptFrame, readFrame, lineOf, each}
+use Rattle.answer.specs.Frames.{frame, refusalFrame, pendingFrame, slotFrame, register, nonZero, keptFrame, readFrame, lineOf, each}
 use Rattle.answer.specs.Texts.{refused, answered, cardrunText, stateText, cardstateText}
 use Rattle.answer.specs.Lengths.{Lengths}
 use Rattle.answer.proofs.Laws.{length-hex}
@@ -38,7 +37,7 @@ slot-length : (i : ℕ) (s : Slot) → length (slotFrame i s) ≡ 37
 unfolding slotFrame
 slot-length i s = simp (length-append, length-hex)
 
-either-most : (b : Bool) (s t : List ℕ) (m : ℕ) → length s ≤ m → length t ≤ m → length (pick b s t) ≤ m
+pub either-most : (b : Bool) (s t : List ℕ) (m : ℕ) → length s ≤ m → length t ≤ m → length (pick b s t) ≤ m
 either-most true s t m p q = p
 either-most false s t m p q = q
 

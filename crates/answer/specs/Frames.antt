@@ -1,13 +1,12 @@
 -- Frames as they are printed: a tag, fields of digits, and LF.
 use Prim.Native.Nat.{ℕ, zero, suc, _+_, _*_}
-use mathlib.Core.Bool.{Bool, true, false}
+use mathlib.Core.Bool.{Bool}
 use mathlib.Core.List.{List, [], _∷_, _++_}
 use lib.Dec.{eqb, ltb}
 use lib.ListN.{getD}
 use Rattle.promise.specs.Pick.{pick}
 use Rattle.frame.specs.Line.{LF}
 use Rattle.frame.specs.Frame.{HI, LO}
-use Rattle.memory.specs.declared.PAddr.{PAddr}
 use Rattle.memory.specs.declared.Eight.{Eight}
 use Rattle.memory.specs.declared.Eight.the-variants.{Ram, Rom, Missing}
 use Rattle.memory.specs.Memory.{read}

@@ -1,0 +1,3 @@
+-- What is printed fits the buffer; the worked image.
+pub mod Fits
+pub mod Worked

@@ -1,7 +1,8 @@
 -- What `cardrun` prints for a text.
-use Prim.Native.Nat.{ℕ}
+use Prim.Native.Nat.{ℕ, _≤_}
 use mathlib.Core.List.{List, []}
 use lib.Dec.{eqb}
+use lib.ListN.{length}
 use Rattle.promise.specs.Pick.{pick}
 use Rattle.card.specs.Run.{runOf, ran}
 use Rattle.image.specs.Image.{imageOf, ramAfter}
@@ -14,3 +15,7 @@ printed text ram =
     pick (eqb (imageOf text ram .number) 0)
     (cardrunText (ran (runOf [] 0 (imageOf text ram .budget) (imageOf text ram .machine) (ramAfter text ram))))
     (refusalFrame (imageOf text ram .number) (imageOf text ram .line))
+
+-- it is never longer than the program's buffer of 1,024 bytes
+abbrev pub Fits : Type 0
+Fits = (text ram : List ℕ) → length (printed text ram) ≤ 1024

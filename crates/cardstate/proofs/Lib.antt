@@ -1,0 +1,2 @@
+-- What is printed fits the buffer.
+pub mod Fits

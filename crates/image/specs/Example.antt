@@ -1,4 +1,4 @@
--- Document 01's worked image, which holds of the rules by computation (I16).
+-- Document 01's worked image: by computation nothing in it is refused (I16). What it prints is proved in cardrun, Worked.worked.
 use Prim.Native.Nat.{ℕ}
 use mathlib.Core.Bool.{false}
 use mathlib.Core.Path.{_≡_, refl}

@@ -111,6 +111,8 @@ function explain_run(i, tag, place) {
     if (12 in cp0) explain_cp0()
     if (0 in slot) explain_slots()
     if (ram_frames) explain_ram()
+    if (pending != "" && !(47 in slot))
+        print "This state is cut short: a whole one has 48 TLB slots and then the RAM that is not 0."
 }
 
 function explain_registers(place, line, count) {

@@ -5,9 +5,9 @@ use mathlib.Core.Bool.{Bool, true, false}
 use native.Mathlib.Omega.{arith}
 use lib.Dec.{eqb}
 use borrow.Author.Tests.{eq-eqb}
-use Rattle.promise.specs.Pick.{pick, both, either, not}
+use Rattle.promise.specs.Pick.{both, either, not}
 use Rattle.memory.specs.declared.PAddr.{PAddr}
-use Rattle.tlb.specs.declared.Mode.the-variants.{User, Kernel, Error}
+use Rattle.tlb.specs.declared.Mode.the-variants.{User}
 use Rattle.cp0.specs.declared.Cp0.{Cp0}
 use Rattle.cp0.specs.declared.Bad.{Bad}
 use Rattle.cp0.specs.declared.Bad.the-variants.{Nothing, Address, Page}
@@ -21,15 +21,6 @@ use Rattle.cp0.specs.Tick.{ended}
 pub mode-user : (status : ℕ) → user status ≡ true → modeOf status ≡ User
 unfolding modeOf
 mode-user status h = rw h
-
-pub mode-kernel : (status : ℕ) → user status ≡ false → modeOf status ≡ User → ⊥
-unfolding modeOf
-mode-kernel status h = go (user status) (ERL status) h
-  where
-    go : (u e : Bool) → u ≡ false → pick u User (pick e Error Kernel) ≡ User → ⊥
-    go true e p q = let z : _≡_ {A = ℕ} 0 1 = cc in absurd (omega arith)
-    go false true p q = let z : _≡_ {A = ℕ} 0 1 = cc in absurd (omega arith)
-    go false false p q = let z : _≡_ {A = ℕ} 0 1 = cc in absurd (omega arith)
 
 -- with EXL set it is not User mode
 not-user : (status : ℕ) → EXL status ≡ true → user status ≡ false

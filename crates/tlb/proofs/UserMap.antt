@@ -3,10 +3,9 @@ use Prim.Native.Nat.{ℕ, _%_, _^_, _<_}
 use mathlib.Core.Path.{_≡_, refl, sym}
 use mathlib.Core.Bool.{Bool, true, false}
 use mathlib.Core.List.{List}
-use native.Mathlib.Nat.{mod-one}
 use native.Mathlib.Omega.{arith}
 use lib.Dec.{ltb}
-use borrow.Author.Tests.{ltb-true, lt-ltb, eqb-true, eq-eqb}
+use borrow.Author.Tests.{ltb-true, lt-ltb, eqb-true}
 use Rattle.memory.specs.declared.PAddr.{PAddr}
 use Rattle.word.specs.Extend as Extend
 use Rattle.word.specs.Word.{extend}
@@ -74,8 +73,3 @@ module _ (asid : ℕ) (tlb : List ℕ) (align : ℕ) (v : VAddr) where
       let w : v .0 % 2 ^ 32 ≡ v .0 = omega arith in
       let l : ltb (v .0 % 2 ^ 32) 0x80000000 ≡ true = rw w (lt-ltb (v .0) 0x80000000 h) in
       rw (a, sym (extended-low v h), l)
-
--- a single byte is always aligned
-pub byte-aligned : (v : VAddr) → aligned 1 v ≡ true
-unfolding aligned
-byte-aligned v = eq-eqb _ _ (mod-one (v .0))

@@ -78,11 +78,6 @@ sign w x h = go (ltb (low w x) (2 ^ hbits w)) refl
         let l : 2 ^ hbits w ≤ low w x = ltb-false _ _ t in
         le-ltb (extend w x) (2 ^ 63) (omega (arith, extend-high w x h l, pow-bits w, mod-lt x (pow-pos (bits w))))
 
--- the number in an extended register
-pub extended-number : (w : Width) (x : ℕ) → 2 ^ bits w ≤ 2 ^ 64 → toZ w64 (extend w x) ≡ signed w x
-unfolding extend
-extended-number w x h = toZ-ofZ w64 (signed w x) (record { sfits = omega (arith, signed-fits w x .sfits, pow-bits w) })
-
 -- the magnitude of the number that the low bits are
 pub magnitude-low : (w : Width) (x : ℕ) → low w x < 2 ^ hbits w → low w x ≡ natAbs (signed w x)
 magnitude-low w x h = rw (toZ-pos w (low w x) h)

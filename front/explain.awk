@@ -21,13 +21,13 @@ function fault_of_answer(i, refused) {
     if (!lines)
         return "the answer is empty; write: ./card run IMAGE | ./card explain"
     if (answer[1] !~ /^0[ef]/ || !is_answer_line(answer[1]))
-        return "this is no answer of cardrun or cardstate: its first line is '" shown(answer[1]) \
+        return "this is no answer of cardrun or cardstate: its first line is '" shown(answer[1], 80) \
             "', not a frame 0e or 0f with a number that the card gives" \
             (frame_fault(answer[1]) ? "" : "; for an image write: ./card list IMAGE")
     refused = answer[1] ~ /^0e/
     for (i = 2; i <= lines; i++)
         if (refused || answer[i] ~ /^0[ef]/ || !is_answer_line(answer[i]))
-            return "line " i " does not belong in an answer: '" shown(answer[i]) "'"
+            return "line " i " does not belong in an answer: '" shown(answer[i], 80) "'"
     if (!refused && !has_pc())
         return "the answer is cut short: it has no PC; write: ./card run IMAGE | ./card explain"
     return ""
@@ -66,7 +66,7 @@ function quote_line(stop, line) {
     else if (line > image_lines)
         print "  the image ends " (image_lines ? "at line " image_lines : "before its first line") ", with no budget frame"
     else {
-        print "  in the image: '" shown(quoted[line]) "'"
+        print "  in the image: '" shown(quoted[line], 200) "'"
         print "  " fault_reason
     }
 }

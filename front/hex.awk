@@ -58,9 +58,9 @@ function address(text) {
     return is_word(text) ? substr(text, 9) : text
 }
 
-# A line of somebody's text, fit to be shown: at most 200 characters, those that cannot be printed as '?'.
-function shown(text) {
-    text = substr(text, 1, 200)
+# A line of somebody's text, fit to be shown: its first characters, those that cannot be printed as '?'.
+function shown(text, most) {
+    text = substr(text, 1, most)
     gsub(/[^ -~]/, "?", text)
     return text
 }

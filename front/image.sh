@@ -1,5 +1,5 @@
 # ./card image: an image from an ELF, which Debian's MIPS binutils read.
-# shellcheck shell=bash
+# shellcheck shell=bash disable=SC2154,SC2034
 # shellcheck source=front/value.sh
 . "$front/value.sh"
 # shellcheck source=front/sections.sh
@@ -18,8 +18,8 @@ card_image() {
   [ -z "$kernel" ] || readable "$kernel" "a kernel" "$image_use"
   need_mips
   make_scratch
-  take "$program" "$scratch/program" "the program" 16
-  [ -z "$kernel" ] || take "$kernel" "$scratch/kernel" "the kernel" 16
+  take "$program" "$scratch/program" "the program" $((16 << 20))
+  [ -z "$kernel" ] || take "$kernel" "$scratch/kernel" "the kernel" $((16 << 20))
   : >"$scratch/frames"
   place_sections
   add_frames
@@ -36,9 +36,9 @@ read_options() {
       read_option "$1" "$2"
       shift
       ;;
-    -?*) wrong "'$1' is no option of image; write: $image_use" ;;
+    -?*) wrong "'$(shown "$1")' is no option of image; write: $image_use" ;;
     *)
-      [ -z "$program" ] || wrong "one program is wanted, and '$1' is a second; write: $image_use"
+      [ -z "$program" ] || wrong "one program is wanted, and '$(shown "$1")' is a second; write: $image_use"
       [ -n "$1" ] || wrong "the name of the program is empty; write: $image_use"
       program=$1
       ;;
@@ -60,8 +60,9 @@ read_option() {
 }
 
 check_output() {
-  [ ! -d "$output" ] || wrong "'$output' is a folder; write: -o IMAGE, the name of a file"
-  [ -d "$(dirname -- "$output")" ] || wrong "there is no folder '$(dirname -- "$output")' for the image; make it, or write another -o IMAGE"
+  [ ! -d "$output" ] || wrong "'$(shown "$output")' is a folder; write: -o IMAGE, the name of a file"
+  [ -d "$(dirname -- "$output")" ] ||
+    wrong "there is no folder '$(shown "$(dirname -- "$output")")' for the image; make it, or write another -o IMAGE"
   if [ "$output" -ef "$program" ] || [ "$output" -ef "${kernel:-/}" ]; then wrong "-o names the program itself; write another -o IMAGE"; fi
 }
 
@@ -85,7 +86,7 @@ add_frames() {
 add() {
   local why
   why=$(printf '%s\n' "$2" | awk_with 'hex names frames fault') || wrong "$1: $why; write: ./card help image"
-  printf '%s\n' "$2" >>"$scratch/frames"
+  printf '%s\n' "$2" >>"$scratch/frames" || no_room
 }
 
 # Of the frames for one register or slot, the last, where the first stood.
@@ -99,7 +100,7 @@ last_of_each() {
 # Puts the image together and holds it to 65,536 bytes.
 check_text() {
   local bytes
-  { cat "$scratch/ram" && last_of_each "$scratch/frames"; } >"$scratch/image" || fail "the image cannot be written to $scratch"
+  { cat "$scratch/ram" && last_of_each "$scratch/frames"; } >"$scratch/image" || no_room
   bytes=$(wc -c <"$scratch/image")
   [ "$bytes" -le 65536 ] ||
     fail "the image's text would have $bytes bytes, over 65,536 (27 for each 8 that are not zero);" \
@@ -108,13 +109,23 @@ check_text() {
 
 # Moves the finished image to its place, so that no half of it is ever there.
 keep_output() {
-  local whole
+  local name
+  name=$(shown "$output")
+  case $output in /*) ;; *) output=./$output ;; esac
   if [ -e "$output" ] && [ ! -f "$output" ]; then # a pipe or a device: nothing to move there
-    emit "$scratch/image" >"$output"
+    case $output in
+    /dev/stdout | /dev/fd/1 | /proc/self/fd/1) ;;
+    /dev/stderr | /dev/fd/2 | /proc/self/fd/2) exec 7>&9 ;;
+    *) exec 7>"$output" || fail "'$name' cannot be written; write another -o IMAGE" ;;
+    esac
+    emit "$scratch/image"
     return
   fi
-  whole=$(mktemp -- "$output.XXXXXX" 2>/dev/null) || fail "the image cannot be written beside '$output'; write another -o IMAGE"
-  if cat -- "$scratch/image" >"$whole" && chmod -- "$(printf %o $((0666 & ~0$(umask))))" "$whole" && mv -f -- "$whole" "$output"; then return; fi
-  rm -f -- "$whole"
-  fail "the image cannot be written to '$output'"
+  half=$(make_temporary -- "$output.XXXXXX") || {
+    half=
+    fail "the image cannot be written beside '$name'; write another -o IMAGE"
+  }
+  { cat -- "$scratch/image" >"$half" && chmod -- "$(printf %o $((0666 & ~0$user_umask)))" "$half" && mv -f -- "$half" "$output"; } ||
+    fail "the image cannot be written to '$name'"
+  half=
 }

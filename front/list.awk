@@ -24,16 +24,12 @@ function refuse(stop, line, reason) {
 function list_line(i, line, fault) {
     line = text[i]
     fault = frame_fault(line)
-    if (fault != 6 && i == lines && !ended) {
-        fault = 6
-        fault_reason = "the line is not ended by LF"
-    }
     if (!fault && budget) {
         fault = 8
         fault_reason = "a frame after the budget"
     }
     if (fault) {
-        printf "%4d  %s\n      ^ refused, %d: %s\n", i, shown(line), fault, fault_reason
+        printf "%4d  %s\n      ^ refused, %d: %s\n", i, shown(line, 200), fault, fault_reason
         refuse(fault, i, fault_reason)
     } else
         list_frame(i, substr(line, 1, 2), number(substr(line, 3, 2)), substr(line, 5))

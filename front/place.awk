@@ -3,12 +3,8 @@
 
 FILENAME ~ /image\.text$/ { text[++lines] = $0; next }
 
-# Takes the mark of the end off the last line; whether the text ended with LF is left in ended.
+# Where each RAM frame is seen, and which layer it is.
 function read_image(i) {
-    ended = text[lines] == "."
-    text[lines] = substr(text[lines], 1, length(text[lines]) - 1)
-    if (ended)
-        lines--
     for (i = 1; i <= lines; i++)
         if (text[i] ~ /^05/ && !frame_fault(text[i]))
             slot[number(substr(text[i], 3, 2))] = substr(text[i], 5)

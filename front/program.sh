@@ -1,112 +1,80 @@
-# Finds the proved programs, proves and builds them the first time, and runs them as rt does.
-# shellcheck shell=bash
+# The proved programs: whether they are what the sources give, how they are run.
+# shellcheck shell=bash disable=SC2154
+# shellcheck source=front/build.sh
+. "$front/build.sh"
 
 # Prints the answer of a proved program to an image, once it is whole: answer_of IMAGE NAME [ARGUMENTS..]
-# It runs in the background, since bash heeds no signal while it waits for a command before it; make_scratch's trap ends it.
+# One byte more than an image may have is enough to be refused.
 answer_of() {
-  local image=$1 name=$2 command
+  local image=$1 name=$2 status=0 command
   shift 2
-  make_scratch
   find_program "$name"
-  if [ "$image" = - ]; then exec 8<&0; else exec 8<"$image"; fi
-  "${command[@]}" "$@" <&8 >"$scratch/answer" 8<&- &
-  running=$!
-  wait "$running" || fail "$name ended with status $?, so there is no answer"
-  running=
-  emit "$scratch/answer"
+  take_first 65537 "$image" "$scratch/image" "the image"
+  "${command[@]}" "$@" <"$scratch/image" >"$scratch/answer" &
+  wait "$!" || status=$?
+  case $status in
+  0) emit "$scratch/answer" ;;
+  1) fail "$name could not read its input or write its answer; there may be no room in '$(shown "$temporary")'" ;;
+  129 | 1[3-9]? | 2??) fail "$name was ended by signal $((status - 128)), so there is no answer" ;;
+  *) fail "$name ended with status $status, so there is no answer" ;;
+  esac
 }
 
 # Sets $command to the words that run a proved program, which is built first where it must be: find_program NAME
 # CARD_BIN names a folder with other programs of these names; they run as they are.
 find_program() {
-  local name=$1 variable
   if [ -n "${CARD_BIN:-}" ]; then
-    [ -x "$CARD_BIN/$name" ] || fail "CARD_BIN is '$CARD_BIN', and there is no program $name in it"
-    command=("$CARD_BIN/$name")
-    return
+    folder=$CARD_BIN runner=()
+    case $folder in /*) ;; *) folder=$PWD/$folder ;; esac
+    [ -x "$folder/$1" ] || fail "CARD_BIN is '$(shown "$CARD_BIN")', and there is no program $1 in it"
+  else
+    folder=$root/target/bin
+    need_kit
+    sum_sources
+    built "$1" || build "$1"
   fi
-  find_kit "$name"
-  built "$name" || build "$name"
-  for variable in ${!QEMU_@}; do unset "$variable"; done
-  command=("${runner[@]}" "$root/target/bin/$name")
+  command=("${runner[@]}" "$folder/$1")
 }
 
-# Sets $runner to the words before a program: the kit's loader and C library, under the kit's emulator on Arm.
+# Sets $kit to the toolchain's folder, $tools to what it has for this machine, and $runner to the words before a program: the kit's
+# loader and C library, under the kit's emulator on Arm. Without a toolchain its status is not 0.
 find_kit() {
-  local kit tools
   kit=${RATTLE_HOME:-}
   if [ -z "$kit" ]; then
-    command -v rt >/dev/null 2>&1 ||
-      fail "rt, the Rattle toolchain's command, is not on the path; install the toolchain, which proves, builds and runs $1"
-    kit=$(dirname -- "$(dirname -- "$(readlink -f -- "$(command -v rt)")")")
+    kit=$(command -v rt) && kit=$(readlink -f -- "$kit") || return
+    kit=${kit%/*/*}
   fi
   tools=$kit/on/$(uname -m)/toolchain
   runner=("$tools/lib/ld-linux-x86-64.so.2" --library-path "$tools/lib")
-  [ -e "${runner[0]}" ] || fail "the toolchain at $kit has nothing for this machine, $(uname -m)"
   [ ! -x "$tools/bin/qemu-x86_64" ] || runner=("$tools/bin/qemu-x86_64" "${runner[@]}")
+  [ -e "$tools/lib/ld-linux-x86-64.so.2" ]
 }
 
-# Whether NAME stands built from the sources as they are now.
-built() {
-  local mark=$root/target/front/$1
-  [ -x "$root/target/bin/$1" ] && [ -e "$mark" ] &&
-    [ -z "$(find "$root/crates.txt" "$root/crates" -newer "$mark" -print -quit 2>/dev/null)" ]
+need_kit() {
+  find_kit || [ -z "$kit" ] || fail "the toolchain at '$(shown "$kit")' has nothing for this machine, $(uname -m)"
+  [ -n "$kit" ] ||
+    fail "rt, the Rattle toolchain's command, is not on the path; install the toolchain, which proves, builds and runs the programs"
 }
 
-# Proves and builds NAME, saying on standard error how far it is.
-build() {
-  local name=$1 log=$root/target/front/$1.log mark=$root/target/front/$1 status
-  command -v rt >/dev/null 2>&1 || fail "rt, the Rattle toolchain's command, is not on the path; $name cannot be built"
-  grep -q "^${name}[[:space:]]*:" "$root/crates.txt" 2>/dev/null || fail "crates.txt lists no crate $name, so there is none to build"
-  mkdir -p "$root/target/front" || fail "the folder target/ cannot be written"
-  exec 9>"$root/target/front/lock"
-  if command -v flock >/dev/null 2>&1 && ! flock -n 9; then
-    note "another ./card is building; waiting for it"
-    flock 9
-  fi
-  if ! built "$name"; then
-    touch "$mark.start"
-    if [ -x "$root/target/bin/$name" ]; then
-      note "the sources of $name may have changed; what did is proved and built anew"
-    else
-      note "proving and building $name from $(crates_of "$name") crates; this takes minutes, the first time only"
-    fi
-    (cd "$root" && rt check "$name") 2>&1 9>&- </dev/null | tee "$log" | progress "$name" "$(crates_of "$name")"
-    status=${PIPESTATUS[0]}
-    [ "$status" -eq 0 ] || fail "$name could not be proved and built; target/front/$name.log has all that rt said"
-    mv "$mark.start" "$mark"
-  fi
-  exec 9>&-
+# Sets $sources to the sum of all files that the programs are proved and built from, whatever their dates.
+sum_sources() {
+  need coreutils sha256sum
+  sources=$(set -o pipefail && cd -- "$root" && find crates.txt crates ! -type d -print0 | sort -z | xargs -0 sha256sum -- | sha256sum) ||
+    fail "crates.txt or a file of crates/ cannot be read"
+  sources=${sources%% *}
 }
 
-# Prints how many crates NAME is made of, itself included.
-crates_of() {
-  awk -v name="$1" '
-    function visit(n, words, count, i) {
-      if (n in seen || !(n in needs)) return
-      seen[n] = 1
-      total++
-      count = split(needs[n], words, " ")
-      for (i = 1; i <= count; i++) visit(words[i])
-    }
-    { sub(/#.*/, "") }
-    /:/ { crate = $0; sub(/[ \t]*:.*/, "", crate); sub(/[^:]*:/, ""); needs[crate] = $0 }
-    END { visit(name); print total + 0 }' "$root/crates.txt"
+# Prints the sum of a file, nothing where it cannot be read.
+sum_of() {
+  local sum
+  sum=$(sha256sum <"$1") && printf '%s' "${sum%% *}"
 }
 
-# Turns what rt says into a line for each crate: progress NAME TOTAL
-progress() {
-  local line done=0
-  while IFS= read -r line; do
-    case $line in
-    'rt: '*' proved (unchanged'*)
-      done=$((done + 1))
-      ;;
-    'rt: '*' proved ('*')')
-      done=$((done + 1))
-      note "$done of $2: ${line#rt: }"
-      ;;
-    'rt: '*'NOT PROVED'* | 'rt: '*' its run FAILED'* | 'rt: crates.txt'*) note "${line#rt: }" ;;
-    esac
-  done
-}
+# Prints what was written down of the last build: recorded KEY
+recorded() { sed -n "s/^$1=//p" "$root/target/front/built"; }
+
+# Whether the sources and the toolchain are those of the last build.
+same_sources() { [ -n "$kit" ] && [ "$(recorded sources)" = "$sources" ] && [ "$(recorded toolchain)" = "$(cat -- "$kit/KIT-ID")" ]; }
+
+# Whether the program NAME stands there as it was built from the sources and by the toolchain as they are now.
+built() { same_sources && [ -x "$root/target/bin/$1" ] && [ "$(recorded "$1")" = "$(sum_of "$root/target/bin/$1")" ]; }

@@ -1,5 +1,5 @@
 # The sections of an ELF into RAM: where each goes, and the 02 frames of their bytes.
-# shellcheck shell=bash
+# shellcheck shell=bash disable=SC2154,SC2034
 # shellcheck source=front/user.sh
 . "$front/user.sh"
 
@@ -11,31 +11,31 @@ place_sections() {
   check_elf program "$program"
   entry_of_program=$entry
   placed=()
-  sections_of program "$program" >"$scratch/sections"
-  [ -s "$scratch/sections" ] || fail "'$program' has no section to load; write code or data into .text or .data"
+  sections_of program "$program" >"$scratch/sections" || no_room
+  [ -s "$scratch/sections" ] || fail "'$(shown "$program")' has no section to load; write code or data into .text or .data"
   if [ -n "$user" ]; then place_user; else place_unmapped program "$scratch/sections"; fi
   entry=$entry_of_program
   check_overlap
-  ram_frames >"$scratch/ram"
+  ram_frames >"$scratch/ram" || no_room
 }
 
 # Holds a file (program or kernel in $scratch) to a linked big-endian MIPS program: check_elf FILE NAME
 # Sets $entry to its entry point, 8 digits.
 check_elf() {
-  local header type isa where='-N -Ttext=0x80000000'
+  local name header type isa where='-N -Ttext=0x80000000'
   [ "$1" != program ] || [ -z "$user" ] || where='-Ttext=0x400000 -Tdata=0x401000'
   header=$("${mips}readelf" -h "$scratch/$1" 2>/dev/null)
-  shift
-  [[ $header == *'ELF Header'* ]] || fail "'$1' is no ELF file; make one with ${mips}as and ${mips}ld"
-  [[ $header == *Machine:*MIPS* ]] || fail "'$1' is not for MIPS; make it with ${mips}as and ${mips}ld"
-  [[ $header == *'big endian'* ]] || fail "'$1' is little-endian, and the card is big-endian; assemble and link with -EB"
+  name=$(shown "$2")
+  [[ $header == *'ELF Header'* ]] || fail "'$name' is no ELF file; make one with ${mips}as and ${mips}ld"
+  [[ $header == *Machine:*MIPS* ]] || fail "'$name' is not for MIPS; make it with ${mips}as and ${mips}ld"
+  [[ $header == *'big endian'* ]] || fail "'$name' is little-endian, and the card is big-endian; assemble and link with -EB"
   type=$(awk '$1 == "Type:" { print $2; exit }' <<<"$header")
-  [ "$type" != REL ] || fail "'$1' is not linked yet; write: ${mips}ld -EB $where -o PROGRAM.elf '$1'"
-  [ "$type" = EXEC ] || fail "'$1' is an ELF of type $type, not a program at a fixed address; link it with ${mips}ld -EB $where"
+  [ "$type" != REL ] || fail "'$name' is not linked yet; write: ${mips}ld -EB $where -o PROGRAM.elf '$name'"
+  [ "$type" = EXEC ] || fail "'$name' is an ELF of type $type, not a program at a fixed address; link it with ${mips}ld -EB $where"
   isa=$(sed -n 's/^ *Flags:.*\(mips[0-9][0-9a-z]*\).*/\1/p' <<<"$header")
-  case $isa in '' | mips[123]) ;; *) note "'$1' was assembled for $isa, and the card has MIPS I to III: assemble with -mips3" ;; esac
+  case $isa in '' | mips[123]) ;; *) note "'$name' was assembled for $isa, and the card has MIPS I to III: assemble with -mips3" ;; esac
   entry=$(sed -n 's/^ *Entry point address: *0x//p' <<<"$header")
-  entry=$(word_of "$entry") || fail "the entry point of '$1' is no 32-bit address; link it below 100000000"
+  entry=$(word_of "$entry") || fail "the entry point of '$name' is no 32-bit address; link it below 100000000"
 }
 
 # A hexadecimal address as 8 digits, where it is a word, sign-extended or not.
@@ -47,7 +47,7 @@ word_of() {
 # Prints NAME SIZE VMA LMA LOADED WRITABLE of each section that takes room in memory: sections_of FILE NAME
 # The notes for Linux' loader are no part of it.
 sections_of() {
-  "${mips}objdump" -h -w "$scratch/$1" >"$scratch/headers" 2>/dev/null || fail "'$2' is cut short or damaged: its sections cannot be read; link it anew"
+  "${mips}objdump" -h -w "$scratch/$1" >"$scratch/headers" 2>/dev/null || fail "'$(shown "$2")' is cut short or damaged: its sections cannot be read; link it anew"
   awk '
     $1 ~ /^[0-9]+$/ && / ALLOC/ && $3 !~ /^0+$/ && $2 !~ /^\.(MIPS\.abiflags|MIPS\.options|reginfo|note.*)$/ {
       print $2, $3, $4, $5, (/ LOAD/ ? "yes" : "no"), (/READONLY/ ? "no" : "yes")
@@ -109,9 +109,9 @@ ram_frames() {
     "${mips}objcopy" -O binary --only-section="$name" "$scratch/$file" "$scratch/part" || fail "section $name of the $file cannot be read"
     [ "$(wc -c <"$scratch/part")" -eq "$size" ] || fail "section $name of the $file: $size bytes are listed, and another number is in the file"
     echo "at $start"
-    od -An -v -tx1 "$scratch/part"
+    od -An -v -tx1 "$scratch/part" || no_room
   done >"$scratch/bytes"
-  [ -z "${stock_kernel:-}" ] || cat -- "$stock_kernel" >>"$scratch/bytes"
+  [ -z "${stock_kernel:-}" ] || cat -- "$stock_kernel" >>"$scratch/bytes" || no_room
   awk_with 'hex ram' "$scratch/bytes"
 }
 

@@ -1,18 +1,18 @@
 # The User-mode preset: the program's pages and a stack mapped, a kernel beneath.
-# shellcheck shell=bash
+# shellcheck shell=bash disable=SC2154,SC2034
 
 stack_page=$((16#7ffff))
 
 # Places a User program: the kernel at 80000000 (its own, --kernel's, or the house's), then a frame for each page of the program.
 place_user() {
   awk '$3 ~ /^(00000000)?[0-7].......$/ { print > low; next } { print > high }' \
-    low="$scratch/low" high="$scratch/high" "$scratch/sections"
-  touch "$scratch/low" "$scratch/high"
-  [ -s "$scratch/low" ] || fail "'$program' has nothing below 80000000 to run in User mode; link it with -Ttext=0x400000, or leave --user out"
+    low="$scratch/low" high="$scratch/high" "$scratch/sections" || no_room
+  touch "$scratch/low" "$scratch/high" || no_room
+  [ -s "$scratch/low" ] || fail "'$(shown "$program")' has nothing below 80000000 to run in User mode; link it with -Ttext=0x400000, or leave --user out"
   place_unmapped program "$scratch/high"
   if [ -n "$kernel" ]; then
     check_elf kernel "$kernel"
-    sections_of kernel "$kernel" >"$scratch/kernel.sections"
+    sections_of kernel "$kernel" >"$scratch/kernel.sections" || no_room
     place_unmapped kernel "$scratch/kernel.sections"
   elif [ ! -s "$scratch/high" ]; then
     stock_kernel=$front/kernel.frames

@@ -1,5 +1,5 @@
 # The values of image options as frames: numbers, symbols of the program, names of registers.
-# shellcheck shell=bash
+# shellcheck shell=bash disable=SC2154,SC2034
 
 # Prints VALUE as 16 digits: decimal; 0x and hexadecimal, where 8 digits are a word, sign-extended; or a symbol.
 value() {
@@ -30,44 +30,44 @@ symbol() {
 
 # Splits NAME=VALUE into $left and $right (16 digits): halves OPTION WORD
 halves() {
-  [[ $2 == *?=?* ]] || wrong "$1 wants NAME=VALUE, not '$2'; write: ./card help image"
+  [[ $2 == *?=?* ]] || wrong "$1 wants NAME=VALUE, not '$(shown "$2")'; write: ./card help image"
   left=${2%%=*}
   right=$(value "${2#*=}") ||
-    wrong "$1 $2: '${2#*=}' is no number (decimal, or 0x and up to 16 digits) and no symbol of '$program'; write: ./card help image"
+    wrong "$1: '$(shown "${2#*=}")' is no number (decimal, or 0x and up to 16 digits) and no symbol of the program; write: ./card help image"
 }
 
 register_option() {
   local left right place
   halves --reg "$1"
   place=$(awk_with 'hex names number' -v "kind=register" -v "name=${left,,}") ||
-    wrong "--reg $1: '$left' is no register; write one as 8, r8, t0, hi, lo or pc"
+    wrong "--reg: '$(shown "$left")' is no register; write one as 8, r8, t0, hi, lo or pc"
   [ "$place" != 22 ] || pc_given=yes
-  add "--reg $1" "01$place$right"
+  add "--reg $(shown "$1")" "01$place$right"
 }
 
 cp0_option() {
   local left right place
   halves --cp0 "$1"
   place=$(awk_with 'hex names number' -v "kind=cp0" -v "name=${left,,}") ||
-    wrong "--cp0 $1: '$left' is no CP0 register that the card keeps and lets be written; write a name, as status, or a number, as 12"
-  add "--cp0 $1" "04$place$right"
+    wrong "--cp0: '$(shown "$left")' is no CP0 register that the card keeps and lets be written; write a name, as status, or a number, as 12"
+  add "--cp0 $(shown "$1")" "04$place$right"
 }
 
 slot_option() {
   local word=${1,,} parts part
   [[ $word =~ ^([0-9]{1,2}|0x[0-9a-f]{1,2})(:(0x)?[0-9a-f]{1,8}){4}$ ]] ||
-    wrong "--tlb wants SLOT:PAGEMASK:ENTRYHI:ENTRYLO0:ENTRYLO1, a slot from 0 to 47 and four words in hexadecimal, not '$1'"
-  IFS=: read -r -a parts <<<"$word"
+    wrong "--tlb wants SLOT:PAGEMASK:ENTRYHI:ENTRYLO0:ENTRYLO1, a slot from 0 to 47 and four words in hexadecimal, not '$(shown "$1")'"
+  IFS=: read -r -a parts < <(printf '%s\n' "$word")
   if [[ $word == 0x* ]]; then word=$((parts[0])); else word=$((10#${parts[0]})); fi
   word=$(printf '05%02x' "$word")
   for part in "${parts[@]:1}"; do word+=$(printf '%08x' "$((16#${part#0x}))"); done
-  add "--tlb $1" "$word"
+  add "--tlb $(shown "$1")" "$word"
 }
 
 budget_option() {
   local digits
-  [[ $1 =~ ^([0-9]{1,10}|0[xX][0-9a-fA-F]{1,8})$ ]] || wrong "--budget wants a number of steps, 0 to 4294967295, not '$1'"
+  [[ $1 =~ ^([0-9]{1,10}|0[xX][0-9a-fA-F]{1,8})$ ]] || wrong "--budget wants a number of steps, 0 to 4294967295, not '$(shown "$1")'"
   if [[ $1 == 0[xX]* ]]; then digits=$((16#${1:2})); else digits=$((10#$1)); fi
-  [ "$digits" -le 4294967295 ] || wrong "--budget wants a number of steps, 0 to 4294967295, not '$1'"
+  [ "$digits" -le 4294967295 ] || wrong "--budget wants a number of steps, 0 to 4294967295, not '$(shown "$1")'"
   add "--budget $1" "03$(printf '%08x' "$digits")"
 }

@@ -1,31 +1,45 @@
-# ./card version: which sources, toolchain and programs an answer comes from.
-# shellcheck shell=bash
+# ./card version: which sources, toolchain and programs an answer comes from, a line KEY=VALUE for each.
+# shellcheck shell=bash disable=SC2154
+# shellcheck source=front/program.sh
+. "$front/program.sh"
 
 card_version() {
   [ $# -eq 0 ] || wrong "version takes no words; write: ./card version"
-  # shellcheck source=front/program.sh
-  . "$front/program.sh"
-  echo "sources: $(sources)"
-  echo "toolchain: $(rt version 2>/dev/null || echo "rt is not on the path")"
-  local name
-  for name in cardrun cardstate; do
-    if built "$name"; then
-      need coreutils sha256sum
-      echo "$name: SHA-256 $(sha256sum <"$root/target/bin/$name" | cut -d ' ' -f 1)"
-    else
-      echo "$name: not built from these sources yet"
-    fi
-  done
+  local name front_sum toolchain='not on this machine' toolchain_sum='not known'
+  make_scratch
+  sum_sources
+  front_sum=$(sum_of_files "$root" card front) || fail "a file of front/ cannot be read"
+  if find_kit; then
+    toolchain=$(cat -- "$kit/KIT-ID") || fail "the toolchain cannot be read"
+    toolchain_sum=$(sum_of_files "$kit" KIT-ID bin lib libs logic toolchain "on/$(uname -m)") || fail "the toolchain cannot be read"
+  fi
+  {
+    commit
+    printf '%s=%s\n' sources "$sources" front "$front_sum" toolchain "$toolchain" toolchain_sum "$toolchain_sum"
+    for name in "${programs[@]}"; do
+      if built "$name"; then echo "$name=$(recorded "$name")"; else echo "$name=not built from these sources"; fi
+    done
+  } >"$scratch/version" || no_room
+  emit "$scratch/version"
 }
 
-# Prints the commit of this folder, and whether a file differs from it.
-sources() {
-  local commit
-  if ! commit=$(git -C "$root" rev-parse HEAD 2>/dev/null); then
-    echo "commit not known, since this folder is no git checkout"
-  elif [ -n "$(git -C "$root" status --porcelain 2>/dev/null)" ]; then
-    echo "commit $commit, with changes"
+# Prints the sum of all files in parts of a folder: sum_of_files FOLDER PART..
+sum_of_files() {
+  local sum
+  cd -- "$1" || return
+  shift
+  sum=$(set -o pipefail && find "$@" -type f -print0 | sort -z | xargs -0 sha256sum -- | sha256sum) && printf '%s' "${sum%% *}"
+}
+
+# Prints the commit of this folder, and whether a file differs from it. Who owns the folder plays no part: whoever runs ./card there
+# runs its files anyhow.
+commit() {
+  local found changed git=(git -c "safe.directory=$root" -c core.fsmonitor=false -c core.hooksPath=/dev/null -C "$root" --no-optional-locks)
+  if [ ! -e "$root/.git" ] || ! found=$("${git[@]}" rev-parse HEAD); then
+    printf '%s\n' "commit=not known, since this is no git checkout or git is not here" "changes=not known"
+  elif ! changed=$("${git[@]}" status --porcelain); then
+    printf '%s\n' "commit=$found" "changes=not known"
   else
-    echo "commit $commit"
+    printf '%s\n' "commit=$found" "changes=$([ -n "$changed" ] && echo yes || echo no)"
   fi
 }

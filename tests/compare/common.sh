@@ -1,11 +1,7 @@
 # What the comparisons share: both emulators' programs, the answers to many images, a difference and its smallest image.
 # shellcheck shell=bash disable=SC2154
-export LC_ALL=C
-front=$root/front
-# shellcheck source=front/say.sh
-. "$front/say.sh"
-# shellcheck source=front/program.sh
-. "$front/program.sh"
+# shellcheck source=tests/front/alone.sh
+. "$root/tests/front/alone.sh"
 
 passed=0
 failed=0
@@ -26,24 +22,14 @@ prepare() {
   second=$root/second/target/release
   cargo build --quiet --release --offline --manifest-path "$root/second/Cargo.toml" --target-dir "$root/second/target" ||
     fail "the second emulator, second/, cannot be built"
-  make_scratch
-  [ $# -gt 0 ] || return 0
-  if [ -n "${CARD_BIN:-}" ]; then
-    proved=$(cd "$CARD_BIN" && pwd -P) || fail "CARD_BIN is '$CARD_BIN', and there is no such folder"
-    runner=()
-  else
-    proved=$root/target/bin
-    find_kit "$1"
-    for name in "$@"; do built "$name" || build "$name"; done
-  fi
-  for name in ${!QEMU_@}; do unset "$name"; done
+  for name in "$@"; do find_program "$name"; done
 }
 
 # The two answers to the image on standard input: of_proved NAME [LINES [ROM]], of_second NAME [LINES [ROM]]
 of_proved() {
   local name=$1
   shift
-  "${runner[@]}" "$proved/$name" "$@"
+  "${runner[@]}" "$folder/$name" "$@"
 }
 
 of_second() {
@@ -87,7 +73,7 @@ proved_states() {
       IFS= read -r header
       words_of "$header"
       echo "# $name"
-      of_proved cardstate "${words[@]}"
+      of_proved cardstate "${words[@]}" || fail "cardstate ended with status $?"
     } <"$image"
   done
 }
@@ -110,7 +96,7 @@ compare_many() {
   local image before=$failed
   "$second/answers2" "$1" >"$scratch/answers" || fail "answers2 ended with status $?"
   "$second/differences2" <"$scratch/answers" >"$scratch/wanted" || fail "differences2 ended with status $?"
-  (cd "$scratch" && of_proved vectors) <"$1" >"$scratch/given"
+  (cd "$scratch" && of_proved vectors) <"$1" >"$scratch/given" || fail "vectors ended with status $?"
   if cmp -s "$scratch/wanted" "$scratch/given"; then
     passed=$((passed + $(grep -c '^# ' "$scratch/wanted")))
     return
@@ -142,7 +128,7 @@ compare_one() {
 
 # Whether the two answers to a text differ: differs PROGRAM TEXT
 differs() {
-  of_proved "$1" "${words[@]}" <"$2" >"$scratch/ours"
+  of_proved "$1" "${words[@]}" <"$2" >"$scratch/ours" || fail "$1 ended with status $?"
   of_second "$1" "${words[@]}" <"$2" >"$scratch/theirs"
   ! cmp -s "$scratch/ours" "$scratch/theirs"
 }

@@ -7,6 +7,7 @@ compare_cases() {
     case $line in '' | '#'*) continue ;; esac
     name=${line%%: *}
     outcome "${line#*: }" >"$T/outcome"
+    messages_are_fit "$T/said" || bad "$name: a message is long, or cannot be printed"
     if [ "$1" = --write ]; then
       cp "$T/outcome" "$tests/expected/$name"
       ok
@@ -20,6 +21,9 @@ compare_cases() {
     fi
   done <"$tests/cases.txt"
 }
+
+# Whether each line of a file is a message of ./card or of examples/build: printed bytes, 300 at most with the LF.
+messages_are_fit() { awk '!/^(card|examples\/build): / || /[^ -~]/ || length($0) > 299 { bad = 1 } END { exit bad }' "$1"; }
 
 # Prints what a command writes and says and its status, without the names of folders on this machine.
 outcome() {

@@ -2,21 +2,12 @@
 # shellcheck shell=bash disable=SC2154
 
 mips='mips-linux-gnu-'
-package=binutils-mips-linux-gnu
 
 prepare() {
-  find_tools || return 1
+  # shellcheck source=tests/tools.sh
+  . "$root/tests/tools.sh"
+  have "${mips}as" binutils-mips-linux-gnu || return 1
   programs && images
-}
-
-# The MIPS binutils, installed where they are missing and this is root.
-find_tools() {
-  if ! command -v "${mips}as" >/dev/null && [ "$(id -u)" = 0 ] && command -v apt-get >/dev/null; then
-    { apt-get update && apt-get install -y --no-install-recommends "$package"; } >"$T/apt" 2>&1 || tail -n 3 "$T/apt"
-  fi
-  command -v "${mips}as" >/dev/null && return
-  echo "FAILED: ${mips}as is missing; install Debian's package $package: apt-get install $package"
-  return 1
 }
 
 # link NAME SOURCE WHERE..

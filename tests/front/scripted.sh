@@ -1,4 +1,4 @@
-# What takes more than one command: examples, help's own examples, closed pipes, the first build.
+# What takes more than one command: examples, help's own examples, closed pipes, safe answers, the first build.
 # shellcheck shell=bash disable=SC2154
 
 scripted() {
@@ -6,7 +6,9 @@ scripted() {
   examples_are_built
   help_can_be_pasted
   closed_pipes
-  version
+  # shellcheck source=tests/front/safe.sh
+  . "$tests/safe.sh"
+  safe_answers
   # shellcheck source=tests/front/first.sh
   . "$tests/first.sh"
   first_build
@@ -56,11 +58,4 @@ closed_pipes() {
     hold "closed pipe: ./card $command" [ ! -s "$T/said" ]
   done
   hold "temporary files are gone" [ -z "$(ls "$T/room")" ]
-}
-
-# The version names the commit, the toolchain and each program.
-version() {
-  ./card version >"$T/wrote" 2>"$T/said"
-  hold "version ends well" [ $? -eq 0 ]
-  hold "version says four things" [ "$(cut -d ' ' -f 1 "$T/wrote" | tr '\n' ' ')" = "sources: toolchain: cardrun: cardstate: " ]
 }

@@ -6,14 +6,14 @@ programs=(cardrun cardstate vectors benchcard)
 
 # Proves and links the programs for the sake of NAME, saying how far it is; what was built by which sums is written down last.
 build() {
-  local name new=$root/target/front/built.new archive=$root/target/staticlib/libprograms.a
+  local name lock new=$root/target/front/built.new archive=$root/target/staticlib/libprograms.a
   umask 022
   command -v rt >/dev/null || fail "rt, the Rattle toolchain's command, is not on the path; $1 cannot be built"
-  { mkdir -p "$root/target/front" "$root/target/bin" && [ -w "$root/target/bin" ] && exec 6>"$root/target/front/lock"; } ||
+  { mkdir -p "$root/target/front" "$root/target/bin" && [ -w "$root/target/bin" ] && exec {lock}>"$root/target/front/lock"; } ||
     fail "the folder target/ cannot be written, and $1 is not there as these sources give it"
-  if command -v flock >/dev/null && ! flock -n 6; then
+  if command -v flock >/dev/null && ! flock -n "$lock"; then
     note "another ./card is building; waiting for it"
-    flock 6
+    flock "$lock"
   fi
   if ! built "$1"; then
     if same_sources && [ "$(recorded archive)" = "$(sum_of "$archive")" ]; then
@@ -28,7 +28,7 @@ build() {
     done
     mv -f -- "$new" "$root/target/front/built" || fail "the folder target/ cannot be written"
   fi
-  exec 6>&-
+  exec {lock}>&-
   umask 077
 }
 
@@ -45,7 +45,7 @@ prove() {
     note "proving and building $1 from $total crates; this takes minutes, the first time only"
   fi
   set -m
-  (set -o pipefail && cd -- "$root" && { rt check programs && rt staticlib programs; } </dev/null 2>&1 | tee target/front/log | progress "$total") 6>&- &
+  (set -o pipefail && cd -- "$root" && { rt check programs && rt staticlib programs; } </dev/null 2>&1 | tee target/front/log | progress "$total") {lock}>&- &
   group=$!
   set +m
   wait "$group" || {

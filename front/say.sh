@@ -93,6 +93,7 @@ readable() {
     return 0
   fi
   name=$(shown "$1")
+  case $1 in /dev/fd/[79] | /proc/self/fd/[79]) wrong "descriptors 7 and 9 are ./card's own; write: $3" ;; esac
   [ -n "$1" ] || wrong "the name of $2 is empty; write: $3"
   [ -e "$1" ] || wrong "there is no file '$name'; write: $3"
   [ ! -d "$1" ] || wrong "'$name' is a folder, not $2; write: $3"
@@ -124,17 +125,19 @@ ended() { [ ! -s "$1" ] || [ "$(tail -c 1 -- "$1" | wc -l)" -eq 1 ]; }
 
 # Prints a finished file whole; where that fails, what a file has of it is taken back. A reader that went away is no error worth a line.
 emit() {
-  local before='' why
+  local before='' why=${scratch:+$scratch/why}
   [[ $closed != *1* ]] || fail "standard output is closed"
   [ ! -f /dev/fd/7 ] || before=$(stat -L -c %s /dev/fd/7)
-  why=$(cat -- "$1" 2>&1 >&7) && return
+  cat -- "$1" >&7 2>"${why:-/dev/null}" &
+  wait "$!" && return
   [ -z "$before" ] || take_back "$1" "$before"
+  [ -n "$why" ] && why=$(<"$why")
   case $why in
-  *'Broken pipe'*) said=yes && exit 1 ;;
+  '' | *'Broken pipe'*) if [ -p /dev/fd/7 ] || [ -n "$why" ]; then said=yes && exit 1; fi ;;
   *'No space left'* | *'quota'*) fail "the output cannot be written: the disk is full" ;;
   *'File too large'*) fail "the output cannot be written: a file may not be so large here (ulimit -f)" ;;
-  *) fail "the output cannot be written" ;;
   esac
+  fail "the output cannot be written"
 }
 
 # Cuts off what a file has of an answer that could not be written whole, if that alone came after its first bytes: take_back ANSWER BYTES
@@ -146,8 +149,9 @@ take_back() {
 
 # Sets $mips to the prefix of the MIPS binutils, as in ${mips}objdump, or fails: CARD_MIPS names another prefix.
 find_mips() {
-  local prefix
-  for prefix in ${CARD_MIPS:-mips-linux-gnu- mips64-linux-gnuabi64- mips64-linux-gnuabin32-}; do
+  local prefix prefixes=(mips-linux-gnu- mips64-linux-gnuabi64- mips64-linux-gnuabin32-)
+  [ -z "${CARD_MIPS:-}" ] || prefixes=("$CARD_MIPS")
+  for prefix in "${prefixes[@]}"; do
     if command -v "${prefix}objdump" >/dev/null; then
       mips=$prefix
       return 0

@@ -34,7 +34,8 @@ sum_of_files() {
 # Prints the commit of this folder, and whether a file differs from it. Who owns the folder plays no part: whoever runs ./card there
 # runs its files anyhow.
 commit() {
-  local found changed git=(git -c "safe.directory=$root" -c core.fsmonitor=false -c core.hooksPath=/dev/null -C "$root" --no-optional-locks)
+  local found changed git=(env GIT_CONFIG_GLOBAL=/dev/null GIT_CONFIG_NOSYSTEM=1
+    git -c "safe.directory=$root" -c core.fsmonitor=false -c core.hooksPath=/dev/null -C "$root" --no-optional-locks)
   if [ ! -e "$root/.git" ] || ! found=$("${git[@]}" rev-parse HEAD); then
     printf '%s\n' "commit=not known, since this is no git checkout or git is not here" "changes=not known"
   elif ! changed=$("${git[@]}" status --porcelain); then

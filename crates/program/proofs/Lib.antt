@@ -1,0 +1,2 @@
+-- That the contract of a status says all.
+pub mod Once

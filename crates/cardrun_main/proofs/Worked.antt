@@ -44,8 +44,8 @@ use Rattle.image.specs.Example.{text}
 use Rattle.answer.specs.Digits.{character, digit, hexOf}
 use Rattle.answer.specs.Frames as printing
 use Rattle.answer.specs.Texts.{cardrunText}
-use Rattle.cardrun.specs.Printed.{printed}
-use Rattle.cardrun.specs.Worked.{answer, Worked}
+use Rattle.cardrun_main.specs.Printed.{printed}
+use Rattle.cardrun_main.specs.Worked.{answer, Worked}
 
 -- the fresh machine with PC 80000000 (sign-extended), as frame 01 sets it
 abbrev start : Machine

@@ -4,7 +4,7 @@ use mathlib.Core.List.{List, [], _∷_}
 use mathlib.Core.Path.{_≡_}
 use lib.ListN.{length}
 use Rattle.image.specs.Example.{text}
-use Rattle.cardrun.specs.Printed.{printed}
+use Rattle.cardrun_main.specs.Printed.{printed}
 
 -- 0f0000000002, 01080000000000000005, 0109000000000000000a and 0122ffffffff80000008, each with its LF
 abbrev pub answer : List ℕ

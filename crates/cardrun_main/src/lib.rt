@@ -1,8 +1,9 @@
-// Runs the image on standard input and prints the answer.
+// Runs the image on standard input, prints the answer and says how it ended.
 ghost use Rattle.answer.specs.Wrote.{Wrote};
-ghost use Rattle.cardrun.specs.Printed.{printed};
+ghost use Rattle.cardrun_main.specs.Printed.{printed};
 use libc::STDIN_FILENO;
-use libc::STDOUT_FILENO;
+use program::End;
+use program::Input;
 
 // The text that answers an image; RAM is what the image asks for, and there is no ROM and no interrupt line.
 fn answer_to(text: &[u8], ram: &mut [u8], out: &mut [u8]) -> usize
@@ -17,19 +18,27 @@ fn answer_to(text: &[u8], ram: &mut [u8], out: &mut [u8]) -> usize
     answer::cardrun_text(&mut *out, ran)
 }
 
-// Writes the first `n` bytes.
-fn print(out: &[u8], n: usize) {
-    if n <= out.len() {
-        io::write_all(STDOUT_FILENO, &out[..n]);
-    }
-}
-
-// One byte more than an image may have is read, and no further.
-fn main() {
-    let mut text = [0u8; 65537];
-    let n = io::read_full(STDIN_FILENO, &mut text);
+// Answers an image: every answer fits the room.
+fn answer_image(text: &[u8]) -> End {
     let mut ram = [0u8; 65536];
     let mut out = [0u8; 1024];
-    let k = answer_to(&text[..n], &mut ram, &mut out);
-    print(&out, k);
+    let n = answer_to(text, &mut ram, &mut out);
+    program::give(
+        &out[..n],
+        b"cardrun: not all of the answer could be written to standard output\n",
+    )
+}
+
+// Takes no arguments, reads the image and answers it; one byte more than an image may have is read, and no further.
+pub fn cardrun() -> End {
+    if 1 < os::arg_count() {
+        program::say(b"cardrun: no arguments are taken; the image is standard input\n");
+        return End::Misused;
+    }
+    let mut text = [0u8; 65537];
+    let Input::Bytes(n) = program::read_whole(STDIN_FILENO, &mut text) else {
+        program::say(b"cardrun: standard input cannot be read\n");
+        return End::Unread;
+    };
+    answer_image(&text[..n])
 }

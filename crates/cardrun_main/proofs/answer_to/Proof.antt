@@ -1,9 +1,9 @@
 -- The image is read, then refused or run, as the definition says.
 use borrow.Author.Tests.{eq-eqb, ne-eqb}
-use Rattle.cardrun.specs.Printed.{printed}
+use Rattle.cardrun_main.specs.Printed.{printed}
 use borrow.Author.Needs.{needs}
-use Rattle.cardrun.proofs.answer_to.Statement.{statement}
-use Rattle.cardrun.proofs.answer_to.Tie as tie
+use Rattle.cardrun_main.proofs.answer_to.Statement.{statement}
+use Rattle.cardrun_main.proofs.answer_to.Tie as tie
 
 read-image-requires : tie.Need-read-image-requires
 read-image-requires c κs = search needs

@@ -1,0 +1,4 @@
+// Runs the image on standard input and prints the answer.
+fn main() {
+    cardrun_main::cardrun();
+}

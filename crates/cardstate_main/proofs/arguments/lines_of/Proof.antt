@@ -1,9 +1,9 @@
 -- Each test of the code is a test of the definition.
 use borrow.Author.Tests.{eq-eqb, ne-eqb}
-use Rattle.cardstate.specs.Arguments.{linesOf}
+use Rattle.cardstate_main.specs.Arguments.{linesOf}
 use borrow.Author.Needs.{needs}
-use Rattle.cardstate.proofs.arguments.lines_of.Statement.{statement}
-use Rattle.cardstate.proofs.arguments.lines_of.Tie as tie
+use Rattle.cardstate_main.proofs.arguments.lines_of.Statement.{statement}
+use Rattle.cardstate_main.proofs.arguments.lines_of.Tie as tie
 
 shared-slice-read-lines-of-one : tie.Need-shared-slice-read-lines-of-one
 shared-slice-read-lines-of-one c = search needs

@@ -4,8 +4,8 @@ use mathlib.Core.List.{List}
 use lib.Dec.{eqb, leb, ltb}
 use lib.ListN.{getD, length}
 use Rattle.promise.specs.Pick.{pick, both}
-use Rattle.cardstate.specs.declared.arguments.Lines.{Lines}
-use Rattle.cardstate.specs.declared.arguments.Lines.the-variants.{Are, Wrong}
+use Rattle.cardstate_main.specs.declared.arguments.Lines.{Lines}
+use Rattle.cardstate_main.specs.declared.arguments.Lines.the-variants.{Are, Wrong}
 
 -- the value of a lowercase hexadecimal digit; 16 for any other character
 unfoldable pub digit : ℕ → ℕ

@@ -1,6 +1,8 @@
 // The arguments: the interrupt lines, and the boot ROM's file.
 ghost use mathlib.Core.Path.{_≡_};
-ghost use Rattle.cardstate.specs.Arguments as Rule;
+ghost use Rattle.program.specs.Within.{Within};
+ghost use Rattle.cardstate_main.specs.Arguments as Rule;
+use program::Input;
 
 // The interrupt lines that an argument names, or it names none.
 pub enum Lines {
@@ -82,27 +84,23 @@ pub(crate) fn lines_given() -> Lines {
     lines_of(&word[..n])
 }
 
-// Reads the file that the second argument names to the start of `rom`, and answers its length; none where there is no
-// argument, and more than `rom` has where the file cannot be read.
-pub(crate) fn read_rom(rom: &mut [u8]) -> usize {
+// Reads the file that the second argument names to the start of `rom`; no bytes where there is no such argument.
+pub(crate) fn read_rom(rom: &mut [u8]) -> Input
+    ensures { λ r. ⌜ Within r (now (rom .exit)) ⌝ }
+{
     if os::arg_count() < 3 {
-        return 0;
+        return Input::Bytes(0);
     }
     let mut path = io::buffer();
     let n = os::arg(2, &mut path);
     if os::errno() != 0 {
-        return usize::MAX;
+        return Input::Failed;
     }
     let fd = os::open_read(&path[..n]);
     if fd < 0 {
-        return usize::MAX;
+        return Input::Failed;
     }
-    let got = libc::read(fd, &mut *rom);
-    if got < 0 {
-        return usize::MAX;
-    }
-    let first = io::count(got, &*rom);
-    let rest = io::read_full(fd, &mut rom[first..]);
+    let read = program::read_whole(fd, &mut *rom);
     libc::close(fd);
-    first + rest
+    read
 }

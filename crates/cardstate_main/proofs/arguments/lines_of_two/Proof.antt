@@ -1,9 +1,9 @@
 -- Each test of the code is a test of the definition.
 use borrow.Author.Tests.{lt-ltb, le-ltb}
-use Rattle.cardstate.specs.Arguments.{two}
+use Rattle.cardstate_main.specs.Arguments.{two}
 use borrow.Author.Needs.{needs}
-use Rattle.cardstate.proofs.arguments.lines_of_two.Statement.{statement}
-use Rattle.cardstate.proofs.arguments.lines_of_two.Tie as tie
+use Rattle.cardstate_main.proofs.arguments.lines_of_two.Statement.{statement}
+use Rattle.cardstate_main.proofs.arguments.lines_of_two.Tie as tie
 
 digit-requires : tie.Need-digit-requires
 digit-requires c κs = search needs

@@ -1,9 +1,9 @@
 -- The test of the code is the test of the definition.
 use borrow.Author.Tests.{lt-ltb, le-ltb}
-use Rattle.cardstate.specs.Arguments.{one}
+use Rattle.cardstate_main.specs.Arguments.{one}
 use borrow.Author.Needs.{needs}
-use Rattle.cardstate.proofs.arguments.lines_of_one.Statement.{statement}
-use Rattle.cardstate.proofs.arguments.lines_of_one.Tie as tie
+use Rattle.cardstate_main.proofs.arguments.lines_of_one.Statement.{statement}
+use Rattle.cardstate_main.proofs.arguments.lines_of_one.Tie as tie
 
 digit-requires : tie.Need-digit-requires
 digit-requires c κs = search needs

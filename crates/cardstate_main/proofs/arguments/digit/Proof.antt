@@ -1,10 +1,10 @@
 -- Each test of the code is a test of the definition.
 use native.Mathlib.Omega.{arith}
 use borrow.Author.Tests.{le-leb, lt-leb}
-use Rattle.cardstate.specs.Arguments.{digit}
+use Rattle.cardstate_main.specs.Arguments.{digit}
 use borrow.Author.Needs.{needs}
-use Rattle.cardstate.proofs.arguments.digit.Statement.{statement}
-use Rattle.cardstate.proofs.arguments.digit.Tie as tie
+use Rattle.cardstate_main.proofs.arguments.digit.Statement.{statement}
+use Rattle.cardstate_main.proofs.arguments.digit.Tie as tie
 
 returns : tie.Need-returns
 unfolding digit

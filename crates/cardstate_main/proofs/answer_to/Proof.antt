@@ -1,9 +1,9 @@
 -- The image is read, then refused or run, as the definition says.
 use borrow.Author.Tests.{eq-eqb, ne-eqb}
-use Rattle.cardstate.specs.Printed.{printed}
+use Rattle.cardstate_main.specs.Printed.{printed}
 use borrow.Author.Needs.{needs}
-use Rattle.cardstate.proofs.answer_to.Statement.{statement}
-use Rattle.cardstate.proofs.answer_to.Tie as tie
+use Rattle.cardstate_main.proofs.answer_to.Statement.{statement}
+use Rattle.cardstate_main.proofs.answer_to.Tie as tie
 
 read-image-requires : tie.Need-read-image-requires
 read-image-requires c κs = search needs

@@ -1,0 +1,66 @@
+// How a program takes its whole input, gives its whole answer, and ends.
+ghost use mathlib.Core.Path.{_≡_};
+ghost use Rattle.program.specs.Ends.{statusOf};
+ghost use Rattle.program.specs.Within.{Within};
+use libc::STDERR_FILENO;
+use libc::STDOUT_FILENO;
+
+// How a program ends.
+pub enum End {
+    Answered,
+    Unread,
+    Unwritten,
+    Misused,
+}
+
+// What was read: so many bytes, after which the input or the room ended; or reading failed.
+pub enum Input {
+    Bytes(usize),
+    Failed,
+}
+
+// The status that says so: 0 with a whole answer, 1 without one, 2 for wrong arguments.
+pub fn status(end: End) -> i32
+    ensures { λ r. ⌜ r ≡ statusOf end ⌝ }
+{
+    match end {
+        End::Answered => 0,
+        End::Unread => 1,
+        End::Unwritten => 1,
+        End::Misused => 2,
+    }
+}
+
+// Reads from a descriptor until `buf` is full or the input ends; a read that fails, or would block, is Failed, whatever
+// came before.
+pub fn read_whole(fd: i32, buf: &mut [u8]) -> Input
+    ensures { λ r. ⌜ Within r (now (buf .exit)) ⌝ }
+{
+    let mut done = 0;
+    while done < buf.len() {
+        let got = libc::read(fd, &mut buf[done..]);
+        if got < 0 {
+            return Input::Failed;
+        }
+        let more = io::count(got, &buf[done..]);
+        if more == 0 {
+            break;
+        }
+        done += more;
+    }
+    Input::Bytes(done)
+}
+
+// Writes a whole answer to standard output and says how the program so ends; where it cannot, one line on standard error.
+pub fn give(answer: &[u8], unwritten: &[u8]) -> End {
+    if io::write_all(STDOUT_FILENO, answer) {
+        return End::Answered;
+    }
+    say(unwritten);
+    End::Unwritten
+}
+
+// Says a line on standard error; where that fails nothing is left to say it on.
+pub fn say(line: &[u8]) {
+    io::write_all(STDERR_FILENO, line);
+}

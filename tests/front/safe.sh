@@ -171,18 +171,18 @@ first_moments() {
 
 # What a message quotes is shortened and can be printed.
 messages() {
-  local name=$'\x9b31mname\x1b[2J\tx' long word
+  local odd=$'\x9b31mname\x1b[2J\tx' long word
   long=$(printf 'n%.0s' {1..4000})
-  export name long
+  export odd long
   for word in run state list explain image walk help 'explain --image' 'image x -o' 'state examples/peek.image' 'image --budget' 'image --reg' \
     'image "$T/timer.elf" --reg' 'image "$T/timer.elf" --tlb' 'image "$T/timer.elf" --cp0' 'image "$T/timer.elf" --budget'; do
-    safe "a name that cannot be printed: $word" 'none 2' "./card $word \"\$name\""
+    safe "a name that cannot be printed: $word" 'none 2' "./card $word \"\$odd\""
     safe "a long name: $word" 'none 2' "./card $word \"\$long\""
   done
   safe "an answer that cannot be printed" none 'printf "0f\233\033[2J\n" | ./card explain'
   safe "a long answer" none 'printf "%s\n" "$long" | ./card explain'
-  safe "CARD_BIN that cannot be printed" none 'CARD_BIN="/$name" ./card run "$T/worked"'
+  safe "CARD_BIN that cannot be printed" none 'CARD_BIN="/$odd" ./card run "$T/worked"'
   safe "a long CARD_BIN" none 'CARD_BIN="/$long" ./card run "$T/worked"'
-  safe "a TMPDIR that cannot be printed" none 'TMPDIR="/$name" ./card run "$T/worked"'
+  safe "a TMPDIR that cannot be printed" none 'TMPDIR="/$odd" ./card run "$T/worked"'
   safe "a long TMPDIR" none 'TMPDIR="/$long" ./card run "$T/worked"'
 }

@@ -1,4 +1,5 @@
--- The status that a program ends with (house).
+-- How a program ends, and the status that says so (house).
+use mathlib.Core.Bool.{Bool, true, false}
 use lib.IntN.{ℤ, pos}
 use Rattle.program.specs.declared.End.{End}
 use Rattle.program.specs.declared.End.the-variants.{Answered, Unread, Unwritten, Misused}
@@ -9,3 +10,8 @@ statusOf Answered = pos 0
 statusOf Unread = pos 1
 statusOf Unwritten = pos 1
 statusOf Misused = pos 2
+
+-- with an answer only where all of it was written
+abbrev pub endOf : Bool → End
+endOf true = Answered
+endOf false = Unwritten

@@ -1,6 +1,6 @@
 // How a program takes its whole input, gives its whole answer, and ends.
 ghost use mathlib.Core.Path.{_≡_};
-ghost use Rattle.program.specs.Ends.{statusOf};
+ghost use Rattle.program.specs.Ends.{statusOf, endOf};
 ghost use Rattle.program.specs.Within.{Within};
 use libc::STDERR_FILENO;
 use libc::STDOUT_FILENO;
@@ -53,10 +53,20 @@ pub fn read_whole(fd: i32, buf: &mut [u8]) -> Input
 
 // Writes a whole answer to standard output and says how the program so ends; where it cannot, one line on standard error.
 pub fn give(answer: &[u8], unwritten: &[u8]) -> End {
-    if io::write_all(STDOUT_FILENO, answer) {
+    let written = io::write_all(STDOUT_FILENO, answer);
+    if !written {
+        say(unwritten);
+    }
+    end_of(written)
+}
+
+// How a program ends by whether all of its answer was written.
+fn end_of(written: bool) -> End
+    ensures { λ r. ⌜ r ≡ endOf written ⌝ }
+{
+    if written {
         return End::Answered;
     }
-    say(unwritten);
     End::Unwritten
 }
 

@@ -1,2 +1,3 @@
--- That the contract of a status says all.
+-- That the contract of a status says all, and what a caller knows of the bytes that it read.
 pub mod Once
+pub mod Reading

@@ -2,8 +2,8 @@
 use Prim.Native.Nat.{_≤_, _-_}
 use lib.ListN.{length}
 use borrow.Author.Needs.{needs}
-use Rattle.benchcard.proofs.sum_of_bytes.Statement.{statement}
-use Rattle.benchcard.proofs.sum_of_bytes.Tie as tie
+use Rattle.benchcard_main.proofs.sum_of_bytes.Statement.{statement}
+use Rattle.benchcard_main.proofs.sum_of_bytes.Tie as tie
 
 abbrev Inv-loop : tie.InvT-loop
 Inv-loop from bytes x₀ i₀ x i = i ≤ length bytes

@@ -1,8 +1,8 @@
 -- The registers are added one after the other; what is left of them falls.
 use Prim.Native.Nat.{_≤_, _-_}
 use borrow.Author.Needs.{needs}
-use Rattle.benchcard.proofs.sum_of_registers.Statement.{statement}
-use Rattle.benchcard.proofs.sum_of_registers.Tie as tie
+use Rattle.benchcard_main.proofs.sum_of_registers.Statement.{statement}
+use Rattle.benchcard_main.proofs.sum_of_registers.Tie as tie
 
 abbrev Inv-loop : tie.InvT-loop
 Inv-loop from regs x₀ i₀ x i = i ≤ 32

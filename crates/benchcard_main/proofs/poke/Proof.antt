@@ -3,8 +3,8 @@ use Prim.Native.Nat.{_≤_, _-_}
 use mathlib.Core.Path.{_≡_}
 use lib.ListN.{length}
 use borrow.Author.Needs.{needs}
-use Rattle.benchcard.proofs.poke.Statement.{statement}
-use Rattle.benchcard.proofs.poke.Tie as tie
+use Rattle.benchcard_main.proofs.poke.Statement.{statement}
+use Rattle.benchcard_main.proofs.poke.Tie as tie
 
 abbrev Inv-loop : tie.InvT-loop
 Inv-loop bytes₀ from words to₀ i₀ bytes to i = (i ≤ length words) × (length bytes ≡ length bytes₀)

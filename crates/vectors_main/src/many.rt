@@ -6,7 +6,7 @@ const HASH: u8 = 35;
 
 pub const SPACE: u8 = 32;
 
-const LF: u8 = 10;
+pub const LF: u8 = 10;
 
 // The next place of a byte from `from` on, or the text's end where it does not come.
 pub(crate) fn next_place(text: &[u8], from: usize, byte: u8) -> usize
@@ -37,20 +37,20 @@ pub(crate) fn past_line(text: &[u8], from: usize) -> usize
     end
 }
 
-// The place after the next space from `from` on, or the line's end where there is none.
-pub(crate) fn next_word(line: &[u8], from: usize) -> usize
-    requires { ⌜ from ≤ length (now line) ⌝ }
-    ensures { λ r. ⌜ r ≤ length (now (line .entry)) ⌝ }
+// The place after the next such byte from `from` on, or the text's end where it does not come.
+pub(crate) fn past(text: &[u8], from: usize, byte: u8) -> usize
+    requires { ⌜ from ≤ length (now text) ⌝ }
+    ensures { λ r. ⌜ r ≤ length (now (text .entry)) ⌝ }
 {
-    let end = next_place(line, from, SPACE);
-    if end < line.len() {
+    let end = next_place(text, from, byte);
+    if end < text.len() {
         return end + 1;
     }
     end
 }
 
 // Whether a header begins at a place.
-fn is_header(file: &[u8], at: usize) -> bool
+pub(crate) fn is_header(file: &[u8], at: usize) -> bool
     requires { ⌜ at < length (now file) ⌝ }
 {
     if file[at] != HASH {
@@ -64,7 +64,7 @@ fn is_header(file: &[u8], at: usize) -> bool
 }
 
 // Where the text that begins at `from` is over: at the next header, or with the file.
-pub(crate) fn past_text(file: &[u8], from: usize) -> usize
+fn past_text(file: &[u8], from: usize) -> usize
     requires { ⌜ from ≤ length (now file) ⌝ }
     ensures { λ r. ⌜ from ≤ r ⌝ }
     ensures { λ r. ⌜ r ≤ length (now (file .entry)) ⌝ }
@@ -77,4 +77,14 @@ pub(crate) fn past_text(file: &[u8], from: usize) -> usize
         at = past_line(file, at);
     }
     at
+}
+
+// Where the image whose header begins at `at` is over.
+pub(crate) fn next_header(file: &[u8], at: usize) -> usize
+    requires { ⌜ at < length (now file) ⌝ }
+    ensures { λ r. ⌜ at < r ⌝ }
+    ensures { λ r. ⌜ r ≤ length (now (file .entry)) ⌝ }
+{
+    let start = past_line(file, at);
+    past_text(file, start)
 }

@@ -2,8 +2,8 @@
 use Prim.Native.Nat.{_≤_, _-_}
 use lib.ListN.{length}
 use borrow.Author.Needs.{needs}
-use Rattle.vectors.proofs.many.next_place.Statement.{statement}
-use Rattle.vectors.proofs.many.next_place.Tie as tie
+use Rattle.vectors_main.proofs.many.next_place.Statement.{statement}
+use Rattle.vectors_main.proofs.many.next_place.Tie as tie
 
 abbrev Inv-loop : tie.InvT-loop
 Inv-loop text from byte at₀ at = (from ≤ at) × (at ≤ length text)

@@ -21,14 +21,17 @@ fn agree(base: &[u8], answer: &[u8], from: usize, end: usize) -> bool
     true
 }
 
-// Prints the lines of an answer at which it does not agree with the base.
-pub(crate) fn print_differing(base: &[u8], answer: &[u8]) {
+// Prints the lines of an answer at which it does not agree with the base, and says whether each could be written.
+pub(crate) fn print_differing(base: &[u8], answer: &[u8]) -> bool {
     let mut at = 0;
     while at < answer.len() {
         let end = past_line(answer, at);
         if !agree(base, answer, at, end) {
-            io::write_all(STDOUT_FILENO, &answer[at..end]);
+            if !io::write_all(STDOUT_FILENO, &answer[at..end]) {
+                return false;
+            }
         }
         at = end;
     }
+    true
 }

@@ -2,8 +2,8 @@
 use Prim.Native.Nat.{_≤_, _-_}
 use lib.ListN.{length}
 use borrow.Author.Needs.{needs}
-use Rattle.vectors.proofs.differing.print_differing.Statement.{statement}
-use Rattle.vectors.proofs.differing.print_differing.Tie as tie
+use Rattle.vectors_main.proofs.differing.print_differing.Statement.{statement}
+use Rattle.vectors_main.proofs.differing.print_differing.Tie as tie
 
 abbrev Inv-loop : tie.InvT-loop
 Inv-loop base answer at₀ at = at ≤ length answer
@@ -32,6 +32,9 @@ part-write-all-end c = search needs
 write-all-requires : tie.Need-write-all-requires Inv-loop μ-loop
 write-all-requires c κs = search needs
 
+returns : tie.Need-returns Inv-loop μ-loop
+returns c = search needs
+
 loop-less : tie.Need-loop-less Inv-loop μ-loop
 loop-less c = search needs
 
@@ -44,8 +47,8 @@ loop-less-2 c = search needs
 loop-again-2 : tie.Need-loop-again-2 Inv-loop μ-loop
 loop-again-2 c = search needs
 
-returns : tie.Need-returns Inv-loop μ-loop
-returns c = search needs
+returns-2 : tie.Need-returns-2 Inv-loop μ-loop
+returns-2 c = search needs
 
 pub print-differing-spec : {M : Type 1} → statement M
 print-differing-spec =
@@ -60,8 +63,9 @@ print-differing-spec =
     part-write-all-start
     part-write-all-end
     write-all-requires
+    returns
     loop-less
     loop-again
     loop-less-2
     loop-again-2
-    returns)
+    returns-2)

@@ -1,8 +1,8 @@
 -- What is at most a buffer's length counts its bytes.
 use native.Mathlib.Omega.{arith}
 use Rattle.io.proofs.Counting.{counts}
-use Rattle.vectors.proofs.answers.within.Statement.{statement}
-use Rattle.vectors.proofs.answers.within.Tie as tie
+use Rattle.vectors_main.proofs.answers.within.Statement.{statement}
+use Rattle.vectors_main.proofs.answers.within.Tie as tie
 
 returns : tie.Need-returns
 returns c = counts _ _ (omega arith)

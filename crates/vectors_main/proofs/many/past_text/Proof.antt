@@ -2,8 +2,8 @@
 use Prim.Native.Nat.{_≤_, _-_}
 use lib.ListN.{length}
 use borrow.Author.Needs.{needs}
-use Rattle.vectors.proofs.many.past_text.Statement.{statement}
-use Rattle.vectors.proofs.many.past_text.Tie as tie
+use Rattle.vectors_main.proofs.many.past_text.Statement.{statement}
+use Rattle.vectors_main.proofs.many.past_text.Tie as tie
 
 abbrev Inv-loop : tie.InvT-loop
 Inv-loop file from at₀ at = (from ≤ at) × (at ≤ length file)

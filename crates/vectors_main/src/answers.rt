@@ -1,6 +1,5 @@
 // The whole answer to an image.
 ghost use mathlib.Core.Path.{_≡_};
-ghost use Prim.Native.Nat.{_≤_, _<_};
 ghost use lib.ListN.{length};
 ghost use Rattle.io.specs.Counts.{Counts};
 
@@ -9,33 +8,6 @@ pub(crate) fn buffer() -> [u8; 262144]
     ensures { λ r. ⌜ 262144 ≡ length r ⌝ }
 {
     [0; 262144]
-}
-
-// The value of a digit; a character that is none counts 0.
-fn digit(c: u8) -> u8
-    ensures { λ r. ⌜ r < 16 ⌝ }
-{
-    if c < 48 {
-        return 0;
-    }
-    if c < 58 {
-        return c - 48;
-    }
-    if c < 97 {
-        return 0;
-    }
-    if c < 103 {
-        return c - 87;
-    }
-    0
-}
-
-// The interrupt lines that two digits at the start of a text are.
-pub(crate) fn lines_of(text: &[u8]) -> u8 {
-    if text.len() < 2 {
-        return 0;
-    }
-    digit(text[0]) * 16 + digit(text[1])
 }
 
 // A count of a buffer's bytes, and never more than it has.

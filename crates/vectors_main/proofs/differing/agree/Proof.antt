@@ -2,8 +2,8 @@
 use Prim.Native.Nat.{_≤_, _-_}
 use lib.ListN.{length}
 use borrow.Author.Needs.{needs}
-use Rattle.vectors.proofs.differing.agree.Statement.{statement}
-use Rattle.vectors.proofs.differing.agree.Tie as tie
+use Rattle.vectors_main.proofs.differing.agree.Statement.{statement}
+use Rattle.vectors_main.proofs.differing.agree.Tie as tie
 
 abbrev Inv-loop : tie.InvT-loop
 Inv-loop base answer from end at₀ at = (end ≤ length answer) × (end ≤ length base)

@@ -1,0 +1,2 @@
+-- How a number grows, digit by digit.
+pub mod Laws

@@ -1,0 +1,2 @@
+-- Why every end of a program has a status of the three.
+pub mod Known

@@ -1,0 +1,2 @@
+-- The statuses that a program may end with.
+pub mod Statuses

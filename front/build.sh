@@ -36,14 +36,14 @@ build() {
 # It runs in a process group of its own, so that a signal ends all of it.
 prove() {
   local before=$sources total
-  rm -f -- "$root/target/front/built"
   total=$(crates_of programs)
   [ "$total" -gt 0 ] || fail "crates.txt lists no crate programs, so there is none to build"
-  if [ -x "$root/target/bin/$1" ]; then
+  if [ -e "$root/target/front/built" ]; then
     note "the sources or the toolchain have changed since $1 was built; what did is proved and built anew"
   else
     note "proving and building $1 from $total crates; this takes minutes, the first time only"
   fi
+  rm -f -- "$root/target/front/built"
   set -m
   (set -o pipefail && cd -- "$root" && { rt check programs && rt staticlib programs; } </dev/null 2>&1 | tee target/front/log | progress "$total") {lock}>&- &
   group=$!

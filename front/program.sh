@@ -71,7 +71,7 @@ sum_of() {
 }
 
 # Prints what was written down of the last build: recorded KEY
-recorded() { sed -n "s/^$1=//p" "$root/target/front/built"; }
+recorded() { sed -n "s/^$1=//p" "$root/target/front/built" 2>/dev/null; }
 
 # Whether the sources and the toolchain are those of the last build.
 same_sources() { [ -n "$kit" ] && [ "$(recorded sources)" = "$sources" ] && [ "$(recorded toolchain)" = "$(cat -- "$kit/KIT-ID")" ]; }

@@ -26,7 +26,7 @@ card_explain() {
   make_scratch
   take "$answer" "$scratch/answer" "the answer"
   ended "$scratch/answer" || fail "the answer's last line has no LF, so it may be cut short; write: ./card run IMAGE | ./card explain"
-  : >"$scratch/image"
+  { : >"$scratch/image" && : >"$scratch/words"; } || no_room
   [ -z "$image" ] || take "$image" "$scratch/image" "the image"
   explain_in_words "$image" >"$scratch/words" || status=$?
   case $status in

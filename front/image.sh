@@ -107,21 +107,26 @@ check_text() {
       "the largest section is $(largest_section)"
 }
 
-# Moves the finished image to its place, so that no half of it is ever there.
+# Moves the finished image to its place, so that no half of it is ever there; through a link, to where it leads.
 keep_output() {
   local name
   name=$(shown "$output")
   case $output in /*) ;; *) output=./$output ;; esac
-  if [ -e "$output" ] && [ ! -f "$output" ]; then # a pipe or a device: nothing to move there
-    case $output in
-    /dev/stdout | /dev/fd/1 | /proc/self/fd/1) ;;
-    /dev/stderr | /dev/fd/2 | /proc/self/fd/2) exec 7>&9 ;;
-    *) exec 7>"$output" || fail "'$name' cannot be written; write another -o IMAGE" ;;
-    esac
+  case $output in
+  /dev/stdout | /dev/fd/1 | /proc/self/fd/1)
+    emit "$scratch/image"
+    return
+    ;;
+  /dev/stderr | /dev/fd/2 | /proc/self/fd/2) output=/dev/fd/9 ;;
+  esac
+  if [ -e "$output" ] && { [ ! -f "$output" ] || [[ $output == /dev/fd/* || $output == /proc/*/fd/* ]]; }; then # a pipe or a device: nothing to move there
+    exec 7>>"$output" || fail "'$name' cannot be written; write another -o IMAGE"
+    closed=
     emit "$scratch/image"
     return
   fi
-  half=$(make_temporary -- "$output.XXXXXX") || {
+  [ ! -L "$output" ] || output=$(readlink -f -- "$output") || fail "'$name' leads nowhere; write another -o IMAGE"
+  half=$(make_temporary -- "${output%/*}/.card.XXXXXX") || {
     half=
     fail "the image cannot be written beside '$name'; write another -o IMAGE"
   }

@@ -13,9 +13,12 @@ answer_of() {
   "${command[@]}" "$@" <"$scratch/image" >"$scratch/answer" &
   wait "$!" || status=$?
   case $status in
-  0) emit "$scratch/answer" ;;
+  0)
+    { [ -s "$scratch/answer" ] && ended "$scratch/answer"; } || fail "$name gave no whole answer"
+    emit "$scratch/answer"
+    ;;
   1) fail "$name could not read its input or write its answer; there may be no room in '$(shown "$temporary")'" ;;
-  129 | 1[3-9]? | 2??) fail "$name was ended by signal $((status - 128)), so there is no answer" ;;
+  129 | 1[3-8]? | 19[0-2]) fail "$name was ended by signal $((status - 128)), so there is no answer" ;;
   *) fail "$name ended with status $status, so there is no answer" ;;
   esac
 }
@@ -59,9 +62,16 @@ need_kit() {
 # Sets $sources to the sum of all files that the programs are proved and built from, whatever their dates.
 sum_sources() {
   need coreutils sha256sum
-  sources=$(set -o pipefail && cd -- "$root" && find crates.txt crates ! -type d -print0 | sort -z | xargs -0 sha256sum -- | sha256sum) ||
-    fail "crates.txt or a file of crates/ cannot be read"
-  sources=${sources%% *}
+  sources=$(sum_of_files "$root" crates.txt crates) || fail "crates.txt or a file of crates/ cannot be read"
+}
+
+# Prints the sum of all files in parts of a folder, those behind links too; nothing else may be there: sum_of_files FOLDER PART..
+sum_of_files() {
+  local sum
+  cd -- "$1" || return
+  shift
+  sum=$(set -o pipefail && [ -z "$(find -L "$@" ! -type f ! -type d -print -quit)" ] &&
+    find -L "$@" -type f -print0 | sort -z | xargs -0 sha256sum -- | sha256sum) && printf '%s' "${sum%% *}"
 }
 
 # Prints the sum of a file, nothing where it cannot be read.

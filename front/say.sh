@@ -37,22 +37,32 @@ fail() {
   exit 1
 }
 
-# What a signal, a reader that goes away or a limit on files would end without a word is an error like any other.
+# The signals that would end bash, but for those that mean a fault of its own: HUP INT QUIT TRAP ABRT USR1 USR2 ALRM TERM STKFLT XCPU VTALRM
+# PROF IO PWR and the real-time ones.
+ending=(1 2 3 5 6 10 12 14 15 16 24 26 27 29 30 {34..64})
+
+# What a reader that goes away or a limit on files would end without a word is an error like any other; a signal ends all, and cleanly.
 catch_signals() {
+  local signal
   trap 'leave $?' EXIT
-  trap 'said=yes; exit 129' HUP
-  trap 'said=yes; exit 130' INT
-  trap 'said=yes; exit 131' QUIT
-  trap 'said=yes; exit 143' TERM
+  # shellcheck disable=SC2064
+  for signal in "${ending[@]}"; do trap "end_by $signal" "$signal"; done
   trap '' PIPE XFSZ
+}
+
+end_by() {
+  said=yes
+  leave $((128 + $1))
+  trap - EXIT
+  exit $((128 + $1))
 }
 
 # The end of the command, whatever ended it: nothing runs on, no file stays, and a status that is not 0 has had its line.
 leave() {
-  trap '' HUP INT QUIT TERM
   local child
+  trap '' "${ending[@]}"
   [ -z "$group" ] || kill -- "-$group"
-  for child in $(jobs -p); do kill "$child" && wait "$child"; done
+  for child in $(jobs -p); do kill -KILL "$child" && wait "$child"; done
   [ -z "$scratch" ] || rm -rf -- "$scratch"
   [ -z "$half" ] || rm -f -- "$half"
   [ "$1" -eq 0 ] || [ -n "$said" ] || note "this could not be done, and why is not known"
@@ -71,17 +81,22 @@ need() {
 }
 
 # Makes a file or a folder by mktemp, which no signal can end between the making and the telling: make_temporary WORDS..
-make_temporary() { (trap '' HUP INT QUIT TERM && exec mktemp "$@"); }
+make_temporary() { (trap '' "${ending[@]}" && exec mktemp "$@"); }
 
 # Makes the folder $scratch, which is gone when the command ends.
 make_scratch() {
-  temporary=${TMPDIR:-/tmp}
-  case $temporary in /*) ;; *) temporary=$PWD/$temporary ;; esac
   need coreutils mktemp
   need mawk awk
+  try_scratch || fail "no temporary folder can be made in '$(shown "$temporary")'; TMPDIR may name another"
+}
+
+# The same, or $scratch is empty and the status not 0.
+try_scratch() {
+  temporary=${TMPDIR:-/tmp}
+  case $temporary in /*) ;; *) temporary=$PWD/$temporary ;; esac
   scratch=$(make_temporary -d -- "$temporary/card.XXXXXX") || {
     scratch=
-    fail "no temporary folder can be made in '$(shown "$temporary")'; TMPDIR may name another"
+    return 1
   }
 }
 
@@ -93,11 +108,21 @@ readable() {
     return 0
   fi
   name=$(shown "$1")
-  case $1 in /dev/fd/[79] | /proc/self/fd/[79]) wrong "descriptors 7 and 9 are ./card's own; write: $3" ;; esac
   [ -n "$1" ] || wrong "the name of $2 is empty; write: $3"
   [ -e "$1" ] || wrong "there is no file '$name'; write: $3"
   [ ! -d "$1" ] || wrong "'$name' is a folder, not $2; write: $3"
   [ -r "$1" ] || wrong "'$name' may not be read; write: $3"
+  ! own_descriptor "$1" || wrong "descriptors 1, 2, 7 and 9 are outputs of ./card's own; write: $3"
+}
+
+# Whether a name stands for one of the descriptors that ./card took for itself.
+own_descriptor() {
+  local folder
+  case $1 in
+  /dev/stdout | /dev/stderr) return 0 ;;
+  */[1279]) folder=$(cd -P -- "${1%/*}" && pwd -P) && [[ $folder =~ ^/proc/[0-9]+(/task/[0-9]+)?/fd$ ]] ;;
+  *) return 1 ;;
+  esac
 }
 
 # Copies FILE, or standard input for '-', whole to COPY: take FILE COPY WHAT [MOST]
@@ -121,30 +146,55 @@ take_first() {
 }
 
 # Whether a text is empty or its last line is ended by LF.
-ended() { [ ! -s "$1" ] || [ "$(tail -c 1 -- "$1" | wc -l)" -eq 1 ]; }
+ended() {
+  local last
+  [ -s "$1" ] || return 0
+  last=$(set -o pipefail && tail -c 1 -- "$1" | od -An -tx1) || fail "the end of the text cannot be read"
+  [ "${last// /}" = 0a ]
+}
 
 # Prints a finished file whole; where that fails, what a file has of it is taken back. A reader that went away is no error worth a line.
 emit() {
-  local before='' why=${scratch:+$scratch/why}
+  local why=${scratch:+$scratch/why} own='' before='' bytes
   [[ $closed != *1* ]] || fail "standard output is closed"
-  [ ! -f /dev/fd/7 ] || before=$(stat -L -c %s /dev/fd/7)
-  cat -- "$1" >&7 2>"${why:-/dev/null}" &
-  wait "$!" && return
-  [ -z "$before" ] || take_back "$1" "$before"
-  [ -n "$why" ] && why=$(<"$why")
+  : >"${why:=/dev/null}" || why=/dev/null
+  bytes=$(stat -L -c %s -- "$1") || fail "the answer cannot be read"
+  [ ! -f /dev/fd/7 ] || hold_output "$bytes"
+  dd "if=$1" bs=64K >&7 2>"$why" &
+  if wait "$!"; then
+    trap '' "${ending[@]}" # what is left to do is to clear up
+    [ -z "$own" ] || exec {own}>&-
+    return 0
+  fi
+  [ -z "$own" ] || take_back
+  why=$(<"$why")
   case $why in
-  '' | *'Broken pipe'*) if [ -p /dev/fd/7 ] || [ -n "$why" ]; then said=yes && exit 1; fi ;;
+  *'Broken pipe'*) said=yes && exit 1 ;;
   *'No space left'* | *'quota'*) fail "the output cannot be written: the disk is full" ;;
   *'File too large'*) fail "the output cannot be written: a file may not be so large here (ulimit -f)" ;;
+  *) fail "the output cannot be written" ;;
   esac
-  fail "the output cannot be written"
 }
 
-# Cuts off what a file has of an answer that could not be written whole, if that alone came after its first bytes: take_back ANSWER BYTES
+# Before an answer goes to a file: other ./card are waited for, and it is seen that the file can take all of it: hold_output BYTES
+# Leaves a descriptor of our own in $own, where the file can be opened anew, and the file's size in $before.
+hold_output() {
+  local free limit
+  if exec {own}>>/dev/fd/7; then flock -w 10 "$own"; else own=; fi
+  before=$(stat -L -c %s /dev/fd/7)
+  free=$(stat -f -L -c '%a * %S' /dev/fd/7)
+  limit=$(ulimit -f)
+  [ "$limit" = unlimited ] || [ $((before + $1)) -le $((limit * 1024)) ] ||
+    fail "the output cannot be written: a file may not be so large here (ulimit -f)"
+  [[ ! $free =~ ^[0-9]+\ \*\ [0-9]+$ ]] || [ $((free + 0)) -eq 0 ] || [ "$1" -le $((free)) ] || fail "the output cannot be written: the disk is full"
+}
+
+# Cuts off what a file has of an answer that could not be written whole, if just that came after what it had before.
 take_back() {
-  local now
-  now=$(stat -L -c %s /dev/fd/7) && [ "$now" -gt "$2" ] || return
-  if tail -c "+$(($2 + 1))" /dev/fd/7 | cmp -s -n "$((now - $2))" - "$1"; then truncate -s "$2" /dev/fd/7; fi
+  local wrote now
+  wrote=$(awk '/ bytes? .*copied/ { print $1 }' "$why")
+  now=$(stat -L -c %s /dev/fd/7)
+  if [ -n "$wrote" ] && [ "$wrote" -gt 0 ] && [ "$now" -eq $((before + wrote)) ]; then truncate -s "$before" /dev/fd/7; fi
 }
 
 # Sets $mips to the prefix of the MIPS binutils, as in ${mips}objdump, or fails: CARD_MIPS names another prefix.

@@ -5,7 +5,10 @@ root=$1 closed=${2#closed=}
 shift 2
 front=$root/front
 # shellcheck source=front/say.sh
-. "$front/say.sh"
+if ! . "$front/say.sh"; then
+  echo "card: front/say.sh cannot be read" >&9
+  exit 1
+fi
 catch_signals
 
 word=${1:-}
@@ -17,7 +20,7 @@ fi
 case $word in
 run | state | explain | image | list | test | version | help)
   # shellcheck source=/dev/null
-  . "$front/$word.sh"
+  . "$front/$word.sh" || fail "front/$word.sh, or a file that it uses, cannot be read"
   "card_$word" "$@"
   ;;
 -h | --help)

@@ -23,24 +23,17 @@ card_version() {
   emit "$scratch/version"
 }
 
-# Prints the sum of all files in parts of a folder: sum_of_files FOLDER PART..
-sum_of_files() {
-  local sum
-  cd -- "$1" || return
-  shift
-  sum=$(set -o pipefail && find "$@" -type f -print0 | sort -z | xargs -0 sha256sum -- | sha256sum) && printf '%s' "${sum%% *}"
-}
-
-# Prints the commit of this folder, and whether a file differs from it. Who owns the folder plays no part: whoever runs ./card there
-# runs its files anyhow.
+# Prints the commit of this folder, and whether a file differs from it, by an index of our own and no settings but these. Who owns the folder
+# plays no part: whoever runs ./card there runs its files anyhow.
 commit() {
-  local found changed git=(env GIT_CONFIG_GLOBAL=/dev/null GIT_CONFIG_NOSYSTEM=1
-    git -c "safe.directory=$root" -c core.fsmonitor=false -c core.hooksPath=/dev/null -C "$root" --no-optional-locks)
-  if [ ! -e "$root/.git" ] || ! found=$("${git[@]}" rev-parse HEAD); then
+  local found changed git=(env GIT_CONFIG_GLOBAL=/dev/null GIT_CONFIG_NOSYSTEM=1 "GIT_INDEX_FILE=$scratch/index"
+    git -c "safe.directory=$root" -c core.fsmonitor=false -c core.hooksPath=/dev/null -c core.excludesFile=/dev/null
+    "--git-dir=$root/.git" "--work-tree=$root" -C "$root")
+  if ! found=$("${git[@]}" rev-parse --verify HEAD); then
     printf '%s\n' "commit=not known, since this is no git checkout or git is not here" "changes=not known"
-  elif ! changed=$("${git[@]}" status --porcelain); then
-    printf '%s\n' "commit=$found" "changes=not known"
-  else
+  elif "${git[@]}" read-tree HEAD && changed=$("${git[@]}" status --porcelain --untracked-files=all); then
     printf '%s\n' "commit=$found" "changes=$([ -n "$changed" ] && echo yes || echo no)"
+  else
+    printf '%s\n' "commit=$found" "changes=not known"
   fi
 }

@@ -32,13 +32,11 @@ fn answer_image(text: &[u8]) -> End {
 // Takes no arguments, reads the image and answers it; one byte more than an image may have is read, and no further.
 pub fn cardrun() -> End {
     if 1 < os::arg_count() {
-        program::say(b"cardrun: no arguments are taken; the image is standard input\n");
-        return End::Misused;
+        return program::misused(b"cardrun: no arguments are taken; the image is standard input\n");
     }
     let mut text = [0u8; 65537];
     let Input::Bytes(n) = program::read_whole(STDIN_FILENO, &mut text) else {
-        program::say(b"cardrun: standard input cannot be read\n");
-        return End::Unread;
+        return program::unread(b"cardrun: standard input cannot be read\n");
     };
     answer_image(&text[..n])
 }

@@ -37,8 +37,7 @@ fn answer_image(text: &[u8], rom: &[u8], lines: u8) -> End {
 fn answer_input(rom: &[u8], lines: u8) -> End {
     let mut text = [0u8; 65537];
     let Input::Bytes(n) = program::read_whole(STDIN_FILENO, &mut text) else {
-        program::say(b"cardstate: standard input cannot be read\n");
-        return End::Unread;
+        return program::unread(b"cardstate: standard input cannot be read\n");
     };
     answer_image(&text[..n], rom, lines)
 }
@@ -46,8 +45,7 @@ fn answer_input(rom: &[u8], lines: u8) -> End {
 // Reads the boot ROM into `rom` and answers.
 fn start(rom: &mut [u8], lines: u8) -> End {
     let Input::Bytes(n) = arguments::read_rom(&mut *rom) else {
-        program::say(b"cardstate: the boot ROM cannot be read\n");
-        return End::Unread;
+        return program::unread(b"cardstate: the boot ROM cannot be read\n");
     };
     answer_input(&rom[..n], lines)
 }
@@ -60,10 +58,9 @@ fn start_with(room: &mut [u8; 4194305], lines: u8) -> End {
 // Reads the arguments and answers.
 pub fn cardstate() -> End {
     let Lines::Are(lines) = arguments::lines_given() else {
-        program::say(
+        return program::misused(
             b"cardstate: the arguments are [LINES [ROM]]: interrupt lines, one or two lowercase hexadecimal digits, and the boot ROM's file\n",
         );
-        return End::Misused;
     };
     let mut room = [0u8; 4194305];
     start_with(&mut room, lines)

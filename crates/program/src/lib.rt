@@ -2,6 +2,7 @@
 ghost use mathlib.Core.Path.{_≡_};
 ghost use Rattle.program.specs.Ends.{statusOf, endOf};
 ghost use Rattle.program.specs.Within.{Within};
+ghost use Rattle.program.specs.declared.End.the-variants.{Unread, Unwritten, Misused};
 use libc::STDERR_FILENO;
 use libc::STDOUT_FILENO;
 
@@ -51,13 +52,37 @@ pub fn read_whole(fd: i32, buf: &mut [u8]) -> Input
     Input::Bytes(done)
 }
 
-// Writes a whole answer to standard output and says how the program so ends; where it cannot, one line on standard error.
-pub fn give(answer: &[u8], unwritten: &[u8]) -> End {
+// Writes a whole answer to standard output and says how the program so ends; where it cannot, with a line.
+pub fn give(answer: &[u8], line: &[u8]) -> End {
     let written = io::write_all(STDOUT_FILENO, answer);
     if !written {
-        say(unwritten);
+        say(line);
     }
     end_of(written)
+}
+
+// The end of a program that could not read what it wanted, with a line that says so.
+pub fn unread(line: &[u8]) -> End
+    ensures { λ r. ⌜ r ≡ Unread ⌝ }
+{
+    say(line);
+    End::Unread
+}
+
+// The end of a program whose answer could not be written whole, with a line that says so.
+pub fn unwritten(line: &[u8]) -> End
+    ensures { λ r. ⌜ r ≡ Unwritten ⌝ }
+{
+    say(line);
+    End::Unwritten
+}
+
+// The end of a program that was given wrong arguments, with a line that says which are right.
+pub fn misused(line: &[u8]) -> End
+    ensures { λ r. ⌜ r ≡ Misused ⌝ }
+{
+    say(line);
+    End::Misused
 }
 
 // How a program ends by whether all of its answer was written.
@@ -71,6 +96,6 @@ fn end_of(written: bool) -> End
 }
 
 // Says a line on standard error; where that fails nothing is left to say it on.
-pub fn say(line: &[u8]) {
+fn say(line: &[u8]) {
     io::write_all(STDERR_FILENO, line);
 }

@@ -22,7 +22,7 @@ pub extern "C" fn cardstate_status() -> i32
 pub extern "C" fn vectors_status() -> i32
     ensures { λ r. ⌜ IsStatus r ⌝ }
 {
-    program::status(vectors_main::vectors())
+    program::status(vectors::vectors())
 }
 
 // The status of `benchcard`.
@@ -30,5 +30,5 @@ pub extern "C" fn vectors_status() -> i32
 pub extern "C" fn benchcard_status() -> i32
     ensures { λ r. ⌜ IsStatus r ⌝ }
 {
-    program::status(benchcard_main::benchcard())
+    program::status(benchcard::benchcard())
 }

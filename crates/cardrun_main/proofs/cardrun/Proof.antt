@@ -7,11 +7,11 @@ use Rattle.cardrun_main.proofs.cardrun.Tie as tie
 arg-count-requires : tie.Need-arg-count-requires
 arg-count-requires c κs = search needs
 
-slice-aggregate-say : tie.Need-slice-aggregate-say
-slice-aggregate-say c = search needs
+slice-aggregate-misused : tie.Need-slice-aggregate-misused
+slice-aggregate-misused c = search needs
 
-say-requires : tie.Need-say-requires
-say-requires c κs = search needs
+misused-requires : tie.Need-misused-requires
+misused-requires c κs = search needs
 
 returns : tie.Need-returns
 returns c = search needs
@@ -28,11 +28,11 @@ enum-known-n c = search needs
 enum-told : tie.Need-enum-told
 enum-told c = search needs
 
-slice-aggregate-say-2 : tie.Need-slice-aggregate-say-2
-slice-aggregate-say-2 c = search needs
+slice-aggregate-unread : tie.Need-slice-aggregate-unread
+slice-aggregate-unread c = search needs
 
-say-requires-2 : tie.Need-say-requires-2
-say-requires-2 c κs = search needs
+unread-requires : tie.Need-unread-requires
+unread-requires c κs = search needs
 
 returns-2 : tie.Need-returns-2
 returns-2 c = search needs
@@ -54,15 +54,15 @@ cardrun-spec =
     tie.close
     (tie.spec
     arg-count-requires
-    slice-aggregate-say
-    say-requires
+    slice-aggregate-misused
+    misused-requires
     returns
     slice-aggregate-read-whole
     read-whole-requires
     enum-known-n
     enum-told
-    slice-aggregate-say-2
-    say-requires-2
+    slice-aggregate-unread
+    unread-requires
     returns-2
     array-share-prefix-text
     slice-aggregate-answer-image

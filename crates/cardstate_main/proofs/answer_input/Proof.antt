@@ -16,11 +16,11 @@ enum-known-n c = search needs
 enum-told : tie.Need-enum-told
 enum-told c = search needs
 
-slice-aggregate-say : tie.Need-slice-aggregate-say
-slice-aggregate-say c = search needs
+slice-aggregate-unread : tie.Need-slice-aggregate-unread
+slice-aggregate-unread c = search needs
 
-say-requires : tie.Need-say-requires
-say-requires c κs = search needs
+unread-requires : tie.Need-unread-requires
+unread-requires c κs = search needs
 
 returns : tie.Need-returns
 returns c = search needs
@@ -45,8 +45,8 @@ answer-input-spec =
     read-whole-requires
     enum-known-n
     enum-told
-    slice-aggregate-say
-    say-requires
+    slice-aggregate-unread
+    unread-requires
     returns
     array-share-prefix-text
     slice-aggregate-answer-image

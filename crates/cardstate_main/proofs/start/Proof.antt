@@ -13,11 +13,11 @@ enum-known-n c = search needs
 enum-told : tie.Need-enum-told
 enum-told c = search needs
 
-slice-aggregate-say : tie.Need-slice-aggregate-say
-slice-aggregate-say c = search needs
+slice-aggregate-unread : tie.Need-slice-aggregate-unread
+slice-aggregate-unread c = search needs
 
-say-requires : tie.Need-say-requires
-say-requires c κs = search needs
+unread-requires : tie.Need-unread-requires
+unread-requires c κs = search needs
 
 same-length : tie.Need-same-length
 same-length c = search needs
@@ -47,8 +47,8 @@ start-spec =
     read-rom-requires
     enum-known-n
     enum-told
-    slice-aggregate-say
-    say-requires
+    slice-aggregate-unread
+    unread-requires
     same-length
     returns
     slice-reshare-prefix-answer-input

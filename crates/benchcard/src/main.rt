@@ -1,4 +1,0 @@
-// Runs the benchmark's program and prints one number for what is left.
-fn main() {
-    benchcard_main::benchcard();
-}

@@ -119,7 +119,12 @@ version_of_others() {
   echo >>"$place/repository/crates/word/src/lib.rt"
   hold "version does not name a program of other sources" writes_line 'cardrun=not built from these sources' version
   hold "version sees a change" writes_line 'changes=yes' version
-  (cd "$place/repository" && git checkout -q crates)
+  (cd "$place/repository" && git checkout -q crates && git update-index --assume-unchanged front/run.sh && echo >>front/run.sh)
+  hold "version sees a change that git was told not to see" writes_line 'changes=yes' version
+  (cd "$place/repository" && git update-index --no-assume-unchanged front/run.sh && git checkout -q front)
+  mkfifo "$place/repository/crates/pipe"
+  hold "what is no file is no source" fails_at_once
+  rm "$place/repository/crates/pipe"
   [ "$(id -u)" = 0 ] && command -v setpriv >/dev/null || return
   chmod 711 "$T" && chmod -R go+rX "$place"
   (
@@ -129,6 +134,8 @@ version_of_others() {
   ) >"$T/wrote" 2>"$T/said"
   hold "version for someone who is not the owner" cmp "$T/version" "$T/wrote"
 }
+
+fails_at_once() { says "card: crates.txt or a file of crates/ cannot be read" version; }
 
 writes_line() {
   local line=$1

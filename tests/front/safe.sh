@@ -15,12 +15,14 @@ safe_answers() {
   inputs
   ended_programs
   first_moments
+  any_signal
+  places
   messages
 }
 
 # Runs a command in bash with $R as the temporary folder; leaves what it wrote and said, and its status.
 attempt() {
-  TMPDIR=$R bash -c "$1" >"$T/wrote" 2>"$T/said" </dev/null
+  TMPDIR=$R timeout 60 bash -c "$1" >"$T/wrote" 2>"$T/said" </dev/null
   status=$?
 }
 
@@ -124,7 +126,24 @@ full_disks() {
   safe "the temporary folder's disk is full at once" none "$(on_disk 4k "$fill"' TMPDIR=$disk ./card run "$T/worked"')"
   safe "explain on a full disk" none "$(on_disk 16k 'TMPDIR=$disk ./card explain "$T/right.state"')"
   safe "list on a full disk" none "$(on_disk 12k 'TMPDIR=$disk ./card list examples/sweep.image')"
+  many_append
+  safe "explain without room for a file" none "$(on_disk 64k,nr_inodes=3 'TMPDIR=$disk ./card explain "$T/right.state"')"
   safe "image to a full disk" none "$(on_disk 4k "$fill"' ./card image "$T/sweep.elf" --user -o "$disk/x.image"; s=$?; ls "$disk" | grep x; exit $s')"
+}
+
+# Several at once append to a file on a disk that has room for two of their answers, and a bit: each answer that was given is there, and
+# nothing else.
+many_append() {
+  local try
+  printf '0300000000x\n' >"$T/small"
+  ./card run "$T/small" >"$T/right.small"
+  export bytes=$((3 + 2 * $(wc -c <"$T/right.small")))
+  for try in 1 2 3; do
+    attempt "$(on_disk 4k 'head -c $((4096 - bytes)) /dev/zero >"$disk/log"; for i in 1 2 3 4; do ./card run "$T/small" >>"$disk/log" 2>/dev/null & done
+      for job in $(jobs -p); do wait "$job" && cat "$T/right.small" >"$T/given.$job"; done; cat "$T"/given.* | cmp - <(tail -c +$((4097 - bytes)) "$disk/log")')"
+    rm -f "$T"/given.*
+    hold "several append to a disk that becomes full, try $try" [ "$status" -eq 0 ]
+  done
 }
 
 # A command with a disk of a size at $disk: on_disk SIZE COMMAND
@@ -167,6 +186,43 @@ first_moments() {
     hold "$signal in the first moments says nothing" [ ! -s "$T/said" -a ! -s "$T/wrote" ]
     rm -rf "${R:?}"/*
   done
+}
+
+# A signal that ends ./card while it waits for its input, or for a program, leaves no file and no process.
+any_signal() {
+  local signal id
+  mkdir -p "$T/waits"
+  printf '#!/bin/sh\nexec sleep 20\n' >"$T/waits/cardrun"
+  chmod +x "$T/waits/cardrun"
+  mkfifo "$T/waits/fifo"
+  echo "$T/waits/" >"$T/waiting"
+  for signal in HUP USR1 ALRM TERM PROF IO PWR 34; do
+    TMPDIR=$R CARD_BIN=$T/waits ./card run "$T/worked" >"$T/wrote" 2>"$T/said" &
+    id=$!
+    TMPDIR=$R ./card run "$T/waits/fifo" >>"$T/wrote" 2>>"$T/said" &
+    sleep 0.3
+    kill -"$signal" "$id" $!
+    wait "$id" $!
+    hold "$signal while it waits" nothing_left
+    hold "$signal while it waits: nothing runs on" [ -z "$(grep -l -s -a -F -f "$T/waiting" /proc/[0-9]*/cmdline)" ]
+  done
+}
+
+# Where ./card stands, and which names stand for what.
+places() {
+  local name
+  mkdir -p "$T/alone"
+  cp card "$T/alone/card"
+  safe "card without its files" none '"$T/alone/card" run "$T/worked"'
+  for name in /dev/fd/7 /dev/fd//9 /proc/self/fd/7 /dev/stdout /dev/fd/2; do
+    safe "an output of ./card's own as input: $name" 'none 2' "./card run $name 7<\"\$T/worked\" 9<\"\$T/worked\" 2>&1 >/dev/null | cat >&2; exit \${PIPESTATUS[0]}"
+  done
+  safe "another descriptor as input" right './card run /dev/fd/5 5<"$T/worked"'
+  safe "a process as input" right './card run <(cat "$T/worked")'
+  safe "a program that gives nothing" none 'printf "#!/bin/sh\nexit 0\n" >"$T/ends/cardrun" && CARD_BIN=$T/ends ./card run "$T/worked"'
+  ln -s "$T/behind" "$T/through"
+  hold "image through a link" ./card image "$T/timer.elf" -o "$T/through"
+  hold "image through a link is where it leads" [ -L "$T/through" -a -s "$T/behind" ]
 }
 
 # What a message quotes is shortened and can be printed.

@@ -7,7 +7,7 @@ use mathlib.Core.List.{List}
 use lib.Dec.{eqb}
 use lib.ListN.{getD, length, set, length-set}
 use lib.Seq.{getD-set-other}
-use borrow.Author.Tests.{eqb-true, eqb-false, eq-eqb}
+use borrow.Author.Tests.{eqb-true, eqb-false, eq-eqb, ne-eqb}
 use Rattle.promise.specs.Pick.{pick, both}
 use Rattle.memory.specs.Memory.{read}
 use Rattle.memory.specs.StoreLaws.{length-put}
@@ -27,11 +27,12 @@ use Rattle.card.specs.Machine.{cpuInRange, inRange}
 use Rattle.card.specs.Step.{putReg, apply, stepOf}
 use Rattle.card.specs.Run.{Whole, whole, plus, refusal, steps, runOf}
 use Rattle.demands.specs.StepStops.{r0}
+use Rattle.demands.specs.Call.{run}
 use Rattle.demands.specs.Runs.{after}
-use Rattle.demands.specs.Range.{Good, StepStays, RunStays, Never19, RunInParts}
+use Rattle.demands.specs.Range.{Good, StepStays, RunStays, R0IsZero, R0Refused, Never19, RunInParts}
 use Rattle.demands.proofs.StepStops.{step-stops}
 use Rattle.demands.proofs.Runs.{goes-on, stops, parts}
-use Rattle.demands.proofs.Refusals.{none, zero-accepted}
+use Rattle.demands.proofs.Refusals.{none, zero-accepted, refused-kept, refusals}
 use Rattle.demands.proofs.RunStops.{runs}
 use Rattle.demands.proofs.Range.{Keeps, effect-keeps}
 
@@ -146,14 +147,27 @@ module _ (rom : List ℕ) (lines : ℕ) where
 pub run-stays : RunStays
 run-stays c g = let w = run-stay (c .rom) (c .lines) (c .budget) (c .machine) (c .ram) g in (w .good, w .long)
 
--- ---- stop 19
+-- ---- r0, and stop 19
+
+pub r0-is-zero : R0IsZero
+r0-is-zero c registers slots a k =
+    let g : Good (c .machine) = record { registers = registers; slots = slots; in-range = a .machine } in
+    r0-zero (after c k .machine) (steps-stay (c .rom) (c .lines) k (c .machine) (c .ram) g .good)
+
+out-of-range : (m : Machine) → (r0 m ≡ 0 → ⊥) → inRange m ≡ false
+unfolding inRange
+out-of-range m n = rw (ne-eqb _ _ n)
+
+pub r0-refused : R0Refused
+r0-refused c ram rom lines n =
+    let e : run c .stop ≡ 4 = refusals c .four .1 (ram, rom, lines, out-of-range (c .machine) n) in
+    refused-kept c (omega arith) (omega arith) ∙ ap (λ (k : ℕ). whole (c .machine) (c .ram) 0 k) e
 
 pub never-19 : Never19
 never-19 c registers slots e =
     let s = runs c .nineteen .0 e in
-    let g : Good (c .machine) = record { registers = registers; slots = slots; in-range = s .accepted .machine } in
     step-stops (after c (s .before) .machine) (after c (s .before) .ram) (c .rom) (c .lines) .nineteen .0 (s .stops)
-    (r0-zero (after c (s .before) .machine) (steps-stay (c .rom) (c .lines) (s .before) (c .machine) (c .ram) g .good))
+    (r0-is-zero c registers slots (s .accepted) (s .before))
 
 -- ---- a run in parts
 

@@ -1,5 +1,5 @@
 -- Accepted machines stay accepted: no step and no run leads out of the range of refusal 4 (N21 to N25), so stop 19 is never given.
-use Prim.Native.Nat.{ℕ, _+_}
+use Prim.Native.Nat.{ℕ, _+_, _≤_}
 use mathlib.Core.Path.{_≡_}
 use mathlib.Core.Bool.{true}
 use mathlib.Core.List.{List}
@@ -9,8 +9,11 @@ use Rattle.promise.specs.Pick.{pick}
 use Rattle.card.specs.declared.Machine.{Machine}
 use Rattle.card.specs.Machine.{inRange}
 use Rattle.card.specs.Step.{stepOf}
-use Rattle.card.specs.Run.{plus, runOf}
+use Rattle.card.specs.Run.{whole, plus, runOf}
 use Rattle.demands.specs.Call.{Call, run}
+use Rattle.demands.specs.Refusals.{RamFits, RomFits, Accepted}
+use Rattle.demands.specs.Runs.{after}
+use Rattle.demands.specs.StepStops.{r0}
 
 -- a machine in its range; 32 registers and 48 slots of four numbers are what every machine of the card has
 pub record Good (m : Machine) : Type 0 where
@@ -27,6 +30,14 @@ StepStays =
 -- so does a run
 abbrev pub RunStays : Type 0
 RunStays = (c : Call) → Good (c .machine) → Good (run c .machine) × (length (run c .ram) ≡ length (c .ram))
+
+-- r0 is 0 after any number of an accepted call's steps
+abbrev pub R0IsZero : Type 0
+R0IsZero = (c : Call) → length (c .machine .regs) ≡ 32 → length (c .machine .tlb) ≡ 192 → Accepted c → (k : ℕ) → r0 (after c k .machine) ≡ 0
+
+-- a machine whose r0 is not 0 is refused with 4, be it run or stepped: no step is counted and nothing changes
+abbrev pub R0Refused : Type 0
+R0Refused = (c : Call) → RamFits c → RomFits c → c .lines ≤ 31 → (r0 (c .machine) ≡ 0 → ⊥) → run c ≡ whole (c .machine) (c .ram) 0 4
 
 -- an accepted run never gives 19, nor does a refused one
 abbrev pub Never19 : Type 0

@@ -16,9 +16,9 @@ use Rattle.card.specs.declared.Cored.{Cored}
 use Rattle.card.specs.declared.Stepped.{Stepped}
 use Rattle.card.specs.Machine.{machine}
 
--- a register is written; r0 never is
+-- a register is written; r0 never is, whatever the number
 unfoldable pub putReg : List ℕ → ℕ → ℕ → List ℕ
-putReg regs i v = pick (eqb i 0) regs (set regs (i % 32) v)
+putReg regs i v = pick (eqb (i % 32) 0) regs (set regs (i % 32) v)
 
 -- all that a step leaves: the machine, RAM, and the stop, 0 for none
 pub record Out : Type 0 where

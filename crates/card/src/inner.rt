@@ -6,11 +6,11 @@ use crate::Cored;
 use cp0::Cp0;
 use effect::Cpu;
 
-// A register is written; r0 never is.
+// A register is written; r0 never is, whatever the number.
 pub fn put_reg(regs: &mut [u64; 32], i: usize, v: u64)
     ensures { λ _. ⌜ now (regs .exit) ≡ Rule.putReg (now (regs .entry)) i v ⌝ }
 {
-    if i == 0 {
+    if i % 32 == 0 {
         return;
     }
     regs[i % 32] = v;

@@ -2,7 +2,6 @@
 pub mod Stages
 pub mod Onward
 pub mod Checks
-pub mod Writes
 pub mod Acts
 pub mod Why
 pub mod StepStops

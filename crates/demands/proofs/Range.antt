@@ -1,6 +1,5 @@
--- What a step comes to keeps a machine in its range: the register that it writes is none or below 32, and what it does to CP0 and the TLB is of the kinds that keep these in range.
-use Prim.Native.Nat.{ℕ, _<_}
-use native.Mathlib.Omega.{arith}
+-- What a step comes to keeps a machine in its range: what it does to CP0 and the TLB is of the kinds that keep these in range.
+use Prim.Native.Nat.{ℕ}
 use mathlib.Core.Path.{_≡_, refl}
 use mathlib.Core.Bool.{Bool, true, false}
 use mathlib.Core.List.{List}
@@ -32,7 +31,7 @@ use Rattle.cp0.specs.declared.Exception.{Exception}
 use Rattle.cp0.specs.declared.Exception.the-variants.{Int, Mod}
 use Rattle.cp0.specs.declared.Move.{Move}
 use Rattle.cp0.specs.declared.Move.the-variants.{Built, NotBuilt}
-use Rattle.cp0.specs.Status.{interrupted, user, CU0}
+use Rattle.cp0.specs.Status.{interrupted}
 use Rattle.cp0.specs.Moves.{checkMove}
 use Rattle.cp0.specs.Range.{cp0InRange}
 use Rattle.cp0.proofs.InRange.{range-read}
@@ -44,8 +43,6 @@ use Rattle.decode.specs.declared.TlbOp.{TlbOp}
 use Rattle.decode.specs.declared.TlbOp.the-variants.{TLBR, TLBWI, TLBWR, TLBP}
 use Rattle.usability.specs.declared.Ready.{Ready}
 use Rattle.usability.specs.declared.Ready.the-variants.{Go, Unusable, Reserved, InSlot}
-use Rattle.decode.specs.Decode.{decode}
-use Rattle.usability.specs.Ready.{ready}
 use Rattle.flow.specs.declared.Act.{Act}
 use Rattle.flow.specs.declared.Act.the-variants as act
 use Rattle.execute.specs.declared.Command.{Command}
@@ -62,14 +59,11 @@ use Rattle.access.specs.Effect.{effects, turned, wrote, raised, stopped}
 use Rattle.access.specs.Access.{got, loaded, sending, sent, saved}
 use Rattle.effect.specs.Step as step
 use Rattle.effect.specs.Step.{moved, fromSlot, fromProbe, tlbDone, movedTo, asked, commanded, executed, readied, begun, fetched, effectOf}
-use Rattle.demands.proofs.Writes.{goes-small}
 use Rattle.demands.proofs.Turns as fine
 use Rattle.demands.proofs.Turns.{Fine}
-use Rattle.demands.proofs.Acts.{Apt, apt-executed}
 
 -- an effect that keeps a machine in range
 pub record Keeps (cp0 : Cp0) (e : Effect) : Type 0 where
-  pub reg : e .reg < 32
   pub turn : Fine cp0 (e .turn)
   pub slot : legalWrite (e .slot) ≡ true
 
@@ -77,13 +71,13 @@ module _ (cpu : Cpu) (cp0 : Cp0) (regs tlb : List ℕ) (look : PAddr → Eight) 
   next-fine : Fine cp0 turn.Next
   next-fine = fine.next-fine cp0 tlb r t
 
-  plain : (x : Turn) (reg value : ℕ) (s : Store) (n : ℕ) → Fine cp0 x → reg < 32 → Keeps cp0 (effects x reg value Keep s n)
+  plain : (x : Turn) (reg value : ℕ) (s : Store) (n : ℕ) → Fine cp0 x → Keeps cp0 (effects x reg value Keep s n)
   unfolding legalWrite
-  plain x reg value s n f h = record { reg = h; turn = f; slot = refl }
+  plain x reg value s n f = record { turn = f; slot = refl }
 
   turned-keeps : (x : Turn) → Fine cp0 x → Keeps cp0 (turned x)
   unfolding turned
-  turned-keeps x f = plain x 0 0 _ _ f (omega arith)
+  turned-keeps x f = plain x 0 0 _ _ f
 
   raised-keeps : (e : Exception) → Keeps cp0 (raised e)
   unfolding raised
@@ -91,69 +85,69 @@ module _ (cpu : Cpu) (cp0 : Cp0) (regs tlb : List ℕ) (look : PAddr → Eight) 
 
   stopped-keeps : (n : ℕ) → Keeps cp0 (stopped n)
   unfolding stopped
-  stopped-keeps n = plain turn.Stay 0 0 _ n (fine.stay-fine cp0 tlb r t) (omega arith)
+  stopped-keeps n = plain turn.Stay 0 0 _ n (fine.stay-fine cp0 tlb r t)
 
-  wrote-keeps : (reg value : ℕ) → reg < 32 → Keeps cp0 (wrote reg value)
+  wrote-keeps : (reg value : ℕ) → Keeps cp0 (wrote reg value)
   unfolding wrote
-  wrote-keeps reg value h = plain turn.Next reg value _ _ next-fine h
+  wrote-keeps reg value = plain turn.Next reg value _ _ next-fine
 
-  got-keeps : (op : LoadOp) (reg old : ℕ) (p : PAddr) (x : Eight) → reg < 32 → Keeps cp0 (got op reg old p x)
+  got-keeps : (op : LoadOp) (reg old : ℕ) (p : PAddr) (x : Eight) → Keeps cp0 (got op reg old p x)
   unfolding got
-  got-keeps op reg old p (Ram n) h = plain _ _ _ _ _ (fine.linking-fine cp0 tlb r t op p) h
-  got-keeps op reg old p (Rom n) h = plain _ _ _ _ _ (fine.linking-fine cp0 tlb r t op p) h
-  got-keeps op reg old p Missing h = raised-keeps _
+  got-keeps op reg old p (Ram n) = plain _ _ _ _ _ (fine.linking-fine cp0 tlb r t op p)
+  got-keeps op reg old p (Rom n) = plain _ _ _ _ _ (fine.linking-fine cp0 tlb r t op p)
+  got-keeps op reg old p Missing = raised-keeps _
 
-  loaded-keeps : (op : LoadOp) (reg old : ℕ) (v : VAddr) (x : Where) → reg < 32 → Keeps cp0 (loaded op reg old v look x)
+  loaded-keeps : (op : LoadOp) (reg old : ℕ) (v : VAddr) (x : Where) → Keeps cp0 (loaded op reg old v look x)
   unfolding loaded
-  loaded-keeps op reg old v (Mapped p h) l = got-keeps op reg old p (look p) l
-  loaded-keeps op reg old v (Unmapped p) l = got-keeps op reg old p (look p) l
-  loaded-keeps op reg old v (Invalid h) l = raised-keeps _
-  loaded-keeps op reg old v Refill l = raised-keeps _
-  loaded-keeps op reg old v Double l = stopped-keeps _
-  loaded-keeps op reg old v AddressError l = raised-keeps _
+  loaded-keeps op reg old v (Mapped p h) = got-keeps op reg old p (look p)
+  loaded-keeps op reg old v (Unmapped p) = got-keeps op reg old p (look p)
+  loaded-keeps op reg old v (Invalid h) = raised-keeps _
+  loaded-keeps op reg old v Refill = raised-keeps _
+  loaded-keeps op reg old v Double = stopped-keeps _
+  loaded-keeps op reg old v AddressError = raised-keeps _
 
-  sending-keeps : (op : StoreOp) (reg : ℕ) (b : Bool) (s : Store) → reg < 32 → Keeps cp0 (sending op reg b s)
+  sending-keeps : (op : StoreOp) (reg : ℕ) (b : Bool) (s : Store) → Keeps cp0 (sending op reg b s)
   unfolding sending
-  sending-keeps store.SB reg b s h = plain _ _ _ _ _ next-fine (omega arith)
-  sending-keeps store.SH reg b s h = plain _ _ _ _ _ next-fine (omega arith)
-  sending-keeps store.SW reg b s h = plain _ _ _ _ _ next-fine (omega arith)
-  sending-keeps store.SD reg b s h = plain _ _ _ _ _ next-fine (omega arith)
-  sending-keeps store.SWL reg b s h = plain _ _ _ _ _ next-fine (omega arith)
-  sending-keeps store.SWR reg b s h = plain _ _ _ _ _ next-fine (omega arith)
-  sending-keeps store.SDL reg b s h = plain _ _ _ _ _ next-fine (omega arith)
-  sending-keeps store.SDR reg b s h = plain _ _ _ _ _ next-fine (omega arith)
-  sending-keeps store.SC reg b s h = plain _ _ _ _ _ next-fine h
-  sending-keeps store.SCD reg b s h = plain _ _ _ _ _ next-fine h
+  sending-keeps store.SB reg b s = plain _ _ _ _ _ next-fine
+  sending-keeps store.SH reg b s = plain _ _ _ _ _ next-fine
+  sending-keeps store.SW reg b s = plain _ _ _ _ _ next-fine
+  sending-keeps store.SD reg b s = plain _ _ _ _ _ next-fine
+  sending-keeps store.SWL reg b s = plain _ _ _ _ _ next-fine
+  sending-keeps store.SWR reg b s = plain _ _ _ _ _ next-fine
+  sending-keeps store.SDL reg b s = plain _ _ _ _ _ next-fine
+  sending-keeps store.SDR reg b s = plain _ _ _ _ _ next-fine
+  sending-keeps store.SC reg b s = plain _ _ _ _ _ next-fine
+  sending-keeps store.SCD reg b s = plain _ _ _ _ _ next-fine
 
-  sent-keeps : (op : StoreOp) (reg : ℕ) (b : Bool) (value : ℕ) (p : PAddr) (x : Eight) → reg < 32 → Keeps cp0 (sent op reg b value p x)
+  sent-keeps : (op : StoreOp) (reg : ℕ) (b : Bool) (value : ℕ) (p : PAddr) (x : Eight) → Keeps cp0 (sent op reg b value p x)
   unfolding sent
-  sent-keeps op reg b value p (Ram n) h = sending-keeps op reg b _ h
-  sent-keeps op reg b value p (Rom n) h = raised-keeps _
-  sent-keeps op reg b value p Missing h = raised-keeps _
+  sent-keeps op reg b value p (Ram n) = sending-keeps op reg b _
+  sent-keeps op reg b value p (Rom n) = raised-keeps _
+  sent-keeps op reg b value p Missing = raised-keeps _
 
-  dirty-keeps : (op : StoreOp) (reg : ℕ) (b : Bool) (value : ℕ) (v : VAddr) (p : PAddr) (x : Eight) (d : Bool) → reg < 32 → Keeps cp0 (pick d (sent op reg b value p x) (raised (Mod v)))
-  dirty-keeps op reg b value v p x true h = sent-keeps op reg b value p x h
-  dirty-keeps op reg b value v p x false h = raised-keeps _
+  dirty-keeps : (op : StoreOp) (reg : ℕ) (b : Bool) (value : ℕ) (v : VAddr) (p : PAddr) (x : Eight) (d : Bool) → Keeps cp0 (pick d (sent op reg b value p x) (raised (Mod v)))
+  dirty-keeps op reg b value v p x true = sent-keeps op reg b value p x
+  dirty-keeps op reg b value v p x false = raised-keeps _
 
-  saved-keeps : (op : StoreOp) (reg : ℕ) (b : Bool) (value : ℕ) (v : VAddr) (x : Where) → reg < 32 → Keeps cp0 (saved op reg b value v look x)
+  saved-keeps : (op : StoreOp) (reg : ℕ) (b : Bool) (value : ℕ) (v : VAddr) (x : Where) → Keeps cp0 (saved op reg b value v look x)
   unfolding saved
-  saved-keeps op reg b value v (Mapped p h) l = dirty-keeps op reg b value v p (look p) (h .dirty) l
-  saved-keeps op reg b value v (Unmapped p) l = sent-keeps op reg b value p (look p) l
-  saved-keeps op reg b value v (Invalid h) l = raised-keeps _
-  saved-keeps op reg b value v Refill l = raised-keeps _
-  saved-keeps op reg b value v Double l = stopped-keeps _
-  saved-keeps op reg b value v AddressError l = raised-keeps _
+  saved-keeps op reg b value v (Mapped p h) = dirty-keeps op reg b value v p (look p) (h .dirty)
+  saved-keeps op reg b value v (Unmapped p) = sent-keeps op reg b value p (look p)
+  saved-keeps op reg b value v (Invalid h) = raised-keeps _
+  saved-keeps op reg b value v Refill = raised-keeps _
+  saved-keeps op reg b value v Double = stopped-keeps _
+  saved-keeps op reg b value v AddressError = raised-keeps _
 
-  asked-keeps : (value : ℕ) (x : Act) → Apt (done.Plain x) → Keeps cp0 (asked cpu cp0 tlb look value x)
-  unfolding asked Apt
-  asked-keeps value act.Nothing h = turned-keeps _ next-fine
-  asked-keeps value (act.Write reg v) h = wrote-keeps reg v h
-  asked-keeps value (act.HiLo hi lo) h = turned-keeps _ (fine.hilo-fine cp0 tlb r t hi lo)
-  asked-keeps value (act.Branch to reg) h = plain _ _ _ _ _ (fine.branch-fine cp0 tlb r t to) h
-  asked-keeps value (act.Skip reg) h = plain _ _ _ _ _ (fine.skip-fine cp0 tlb r t) h
-  asked-keeps value (act.Load op reg at) h = loaded-keeps op reg value at _ h
-  asked-keeps value (act.Store op reg at) h = saved-keeps op reg (cpu .link) value at _ h
-  asked-keeps value (act.Raise e) h = raised-keeps e
+  asked-keeps : (value : ℕ) (x : Act) → Keeps cp0 (asked cpu cp0 tlb look value x)
+  unfolding asked
+  asked-keeps value act.Nothing = turned-keeps _ next-fine
+  asked-keeps value (act.Write reg v) = wrote-keeps reg v
+  asked-keeps value (act.HiLo hi lo) = turned-keeps _ (fine.hilo-fine cp0 tlb r t hi lo)
+  asked-keeps value (act.Branch to reg) = plain _ _ _ _ _ (fine.branch-fine cp0 tlb r t to)
+  asked-keeps value (act.Skip reg) = plain _ _ _ _ _ (fine.skip-fine cp0 tlb r t)
+  asked-keeps value (act.Load op reg at) = loaded-keeps op reg value at _
+  asked-keeps value (act.Store op reg at) = saved-keeps op reg (cpu .link) value at _
+  asked-keeps value (act.Raise e) = raised-keeps e
 
   from-slot-keeps : (i : ℕ) → Keeps cp0 (fromSlot (readSlot tlb i))
   unfolding readSlot fromSlot
@@ -171,7 +165,7 @@ module _ (cpu : Cpu) (cp0 : Cp0) (regs tlb : List ℕ) (look : PAddr → Eight) 
 
   put-keeps : (i : ℕ) → Keeps cp0 (effects turn.Next 0 0 (Put i (moved cp0)) Nowhere 0)
   unfolding legalWrite
-  put-keeps i = record { reg = omega arith; turn = next-fine; slot = range-read cp0 r .pagemask-in }
+  put-keeps i = record { turn = next-fine; slot = range-read cp0 r .pagemask-in }
 
   tlb-keeps : (op : TlbOp) → Keeps cp0 (tlbDone op cp0 tlb)
   unfolding tlbDone probe
@@ -185,28 +179,28 @@ module _ (cpu : Cpu) (cp0 : Cp0) (regs tlb : List ℕ) (look : PAddr → Eight) 
   moved-keeps n v Built e = turned-keeps _ (fine.move-fine cp0 tlb r t n v e)
   moved-keeps n v NotBuilt e = stopped-keeps 18
 
-  commanded-keeps : (lines : ℕ) (x : Command) → Apt (done.Command x) → Keeps cp0 (commanded cp0 tlb lines x)
-  unfolding commanded Apt
-  commanded-keeps lines (command.MoveFrom reg n d) h = wrote-keeps reg _ h
-  commanded-keeps lines (command.MoveTo n v) h = moved-keeps n v _ refl
-  commanded-keeps lines (command.Tlb op) h = tlb-keeps op
-  commanded-keeps lines command.Eret h = turned-keeps _ (fine.eret-fine cp0 tlb r t)
+  commanded-keeps : (lines : ℕ) (x : Command) → Keeps cp0 (commanded cp0 tlb lines x)
+  unfolding commanded
+  commanded-keeps lines (command.MoveFrom reg n d) = wrote-keeps reg _
+  commanded-keeps lines (command.MoveTo n v) = moved-keeps n v _ refl
+  commanded-keeps lines (command.Tlb op) = tlb-keeps op
+  commanded-keeps lines command.Eret = turned-keeps _ (fine.eret-fine cp0 tlb r t)
 
-  executed-keeps : (lines value : ℕ) (x : Executed) → Apt x → Keeps cp0 (executed cpu cp0 tlb look lines value x)
+  executed-keeps : (lines value : ℕ) (x : Executed) → Keeps cp0 (executed cpu cp0 tlb look lines value x)
   unfolding executed
-  executed-keeps lines value (done.Plain a) h = asked-keeps value a h
-  executed-keeps lines value (done.Command c) h = commanded-keeps lines c h
+  executed-keeps lines value (done.Plain a) = asked-keeps value a
+  executed-keeps lines value (done.Command c) = commanded-keeps lines c
 
-  readied-keeps : (lines w : ℕ) (x : Ready) → ready (user (cp0 .status)) (CU0 (cp0 .status)) (cpu .slot) (decode w) ≡ x → Keeps cp0 (readied cpu cp0 regs tlb look lines w x)
+  readied-keeps : (lines w : ℕ) (x : Ready) → Keeps cp0 (readied cpu cp0 regs tlb look lines w x)
   unfolding readied
-  readied-keeps lines w (Go i) e = executed-keeps lines _ _ (apt-executed i _ _ _ _ _ (goes-small _ _ _ w i e))
-  readied-keeps lines w (Unusable n) e = raised-keeps _
-  readied-keeps lines w Reserved e = raised-keeps _
-  readied-keeps lines w InSlot e = stopped-keeps _
+  readied-keeps lines w (Go i) = executed-keeps lines _ _
+  readied-keeps lines w (Unusable n) = raised-keeps _
+  readied-keeps lines w Reserved = raised-keeps _
+  readied-keeps lines w InSlot = stopped-keeps _
 
   begun-keeps : (lines : ℕ) (x : Fetched) → Keeps cp0 (begun cpu cp0 regs tlb look lines x)
   unfolding begun step.decoded
-  begun-keeps lines (fetch.Word w) = readied-keeps lines w _ refl
+  begun-keeps lines (fetch.Word w) = readied-keeps lines w _
   begun-keeps lines (fetch.Raise e) = raised-keeps e
   begun-keeps lines fetch.Double = stopped-keeps 16
 

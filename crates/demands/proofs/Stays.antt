@@ -1,5 +1,5 @@
 -- A step and a run of a machine in its range leave one, so a run may be resumed and r0 is never found not zero.
-use Prim.Native.Nat.{ℕ, zero, suc, _+_, _%_, _<_, _≤_}
+use Prim.Native.Nat.{ℕ, zero, suc, _+_, _%_, _≤_}
 use native.Mathlib.Omega.{arith}
 use mathlib.Core.Path.{_≡_, refl, sym, _∙_, ap, subst}
 use mathlib.Core.Bool.{Bool, true, false}
@@ -54,17 +54,17 @@ cpu-stays cpu cp0 turn.Eret h = refl
 cpu-stays cpu cp0 turn.Stay h = h
 
 -- r0 is never written
-r0-stays : (regs : List ℕ) (i v : ℕ) → i < 32 → getD regs 0 0 ≡ 0 → getD (putReg regs i v) 0 0 ≡ 0
+r0-stays : (regs : List ℕ) (i v : ℕ) → getD regs 0 0 ≡ 0 → getD (putReg regs i v) 0 0 ≡ 0
 unfolding putReg
-r0-stays regs i v l h = go (eqb i 0) refl
+r0-stays regs i v h = go (eqb (i % 32) 0) refl
   where
-    go : (b : Bool) → eqb i 0 ≡ b → getD (pick b regs (set regs (i % 32) v)) 0 0 ≡ 0
+    go : (b : Bool) → eqb (i % 32) 0 ≡ b → getD (pick b regs (set regs (i % 32) v)) 0 0 ≡ 0
     go true e = h
-    go false e = getD-set-other regs (i % 32) 0 v 0 (λ z. eqb-false i 0 e (omega arith)) ∙ h
+    go false e = getD-set-other regs (i % 32) 0 v 0 (λ z. eqb-false (i % 32) 0 e (sym z)) ∙ h
 
 length-reg : (regs : List ℕ) (i v : ℕ) → length (putReg regs i v) ≡ length regs
 unfolding putReg
-length-reg regs i v = go (eqb i 0)
+length-reg regs i v = go (eqb (i % 32) 0)
   where
     go : (b : Bool) → length (pick b regs (set regs (i % 32) v)) ≡ length regs
     go true = refl
@@ -95,7 +95,7 @@ module _ (m : Machine) (g : Good m) where
         registers = length-reg (m .regs) (e .reg) (e .value) ∙ g .registers;
         slots = put-length (m .tlb) (e .slot) ∙ g .slots;
         in-range =
-            join _ _ (eq-eqb _ _ (r0-stays (m .regs) (e .reg) (e .value) (k .reg) r0-zero))
+            join _ _ (eq-eqb _ _ (r0-stays (m .regs) (e .reg) (e .value) r0-zero))
             (join _ _ (cpu-stays (m .cpu) (m .cp0) (e .turn) (split (cpuInRange (m .cpu)) _ (known .1) .0))
             (join _ _ (k .turn (m .cpu .pc) (m .cpu .slot)) (put-in-range (m .tlb) (e .slot) (g .slots) known-tlb (k .slot))));
       }

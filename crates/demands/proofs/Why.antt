@@ -59,7 +59,6 @@ use Rattle.demands.specs.StepStops.Twice.{at-fetch, at-load, at-store, a
 use Rattle.demands.specs.StepRaises.{ReadFault, WriteFault, MayStore, NoRam, OfExecute, Raises}
 use Rattle.demands.specs.StepRaises.Raises.{interrupt, fetch-fault, fetch-bus, unusable, reserved, load-fault, load-bus, store-fault, store-bus}
 use Rattle.demands.proofs.Onward.{entering, On, quiet, linking-on, sending-on, led-on, out-lands}
-use Rattle.demands.proofs.Writes.{goes-small}
 use Rattle.demands.proofs.Acts.{Apt, apt-executed}
 use Rattle.demands.proofs.Checks.{Checked, checked}
 use Rattle.demands.proofs.Stages as stages
@@ -129,7 +128,7 @@ module _ (m : Machine) (s o : List ℕ) (lines : ℕ) where
 
   of-execute : (e : Exception) → Executes m s o lines (done.Plain (act.Raise e)) → OfExecute e
   unfolding Apt
-  of-execute e x = subst Apt (x .comes) (apt-executed (x .instr) _ _ _ _ _ (goes-small _ _ _ (x .word) (x .instr) (x .may)))
+  of-execute e x = subst Apt (x .comes) (apt-executed (x .instr) _ _ _ _ _)
 
   asked-why : (value : ℕ) (a : Act) → Executes m s o lines (done.Plain a) → Why (asked (m .cpu) (m .cp0) (m .tlb) (read s o) value a)
   unfolding asked wrote turned

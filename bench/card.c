@@ -393,8 +393,6 @@ static int execute(Machine *m, const Memory *y, uint8_t lines, uint32_t w) {
 /* What a step does before its end: the interrupt, or the fetch and the instruction. */
 static int body(Machine *m, const Memory *y, uint8_t lines) {
   uint64_t p;
-  if (m->regs[0])
-    return 19;
   if ((m->status & (IE | EXL | ERL)) == IE && (m->status & (m->cause | (uint32_t)lines << 10) & 0xff00)) {
     enter(m, INT, 0, 0);
     return 0;

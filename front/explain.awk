@@ -43,7 +43,7 @@ function has_pc(i) {
 function is_answer_line(line) {
     if (line ~ /[^0-9a-f]/) return 0
     if (line ~ /^0e/) return line ~ /^0e0[1-8]/ && length(line) == 12
-    if (line ~ /^0f/) return line ~ /^0f(00|1[0-3])/ && length(line) == 12
+    if (line ~ /^0f/) return line ~ /^0f(00|1[0-2])/ && length(line) == 12
     if (line ~ /^0a/) return length(line) == 22
     return line !~ /^03/ && !frame_fault(line)
 }

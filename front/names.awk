@@ -54,7 +54,6 @@ function stop_meaning(stop) {
     if (stop == 16) return "two TLB slots match one address; the state is the one before that step"
     if (stop == 17) return "a branch, a jump or ERET stands in a delay slot; the state is the one before that step"
     if (stop == 18) return "a CP0 move of a Status or PageMask value that is not built; the state is the one before that step"
-    if (stop == 19) return "r0 was found not zero before a step; the state is the one before that step"
     return ""
 }
 

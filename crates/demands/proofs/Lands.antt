@@ -16,7 +16,7 @@ use Rattle.card.specs.Step.{apply, stepOf}
 use Rattle.demands.specs.StepStops.{effect}
 use Rattle.demands.specs.Lands.{StoresLand}
 use Rattle.demands.proofs.Why.{Why, effect-why}
-use Rattle.demands.proofs.Why.Why.{goes-on, enters, twice, in-a-slot, not-built, not-zero}
+use Rattle.demands.proofs.Why.Why.{goes-on, enters, twice, in-a-slot, not-built}
 
 -- the bus has nothing against a step's store
 done : (m : Machine) (s o : List ℕ) (lines : ℕ) → putAnswer s (effect m s o lines .store) ≡ Done
@@ -32,7 +32,6 @@ done m s o lines = go (effect-why m s o lines)
     go (twice t h) = like h
     go (in-a-slot t h) = like h
     go (not-built t h) = like h
-    go (not-zero t h) = like h
 
 landed : (s : List ℕ) (to : PAddr) (size value : ℕ) → putAnswer s (Write to size value) ≡ Done → lands s to size ≡ true
 unfolding putAnswer

@@ -16,4 +16,5 @@ pub mod Turns
 pub mod Range
 pub mod Stays
 pub mod Example
+pub mod Zero
 pub mod Useless

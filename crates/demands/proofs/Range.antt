@@ -3,8 +3,7 @@ use Prim.Native.Nat.{ℕ}
 use mathlib.Core.Path.{_≡_, refl}
 use mathlib.Core.Bool.{Bool, true, false}
 use mathlib.Core.List.{List}
-use lib.Dec.{eqb, ltb}
-use lib.ListN.{getD}
+use lib.Dec.{ltb}
 use borrow.Author.Tests.{ltb-true}
 use Rattle.promise.specs.Pick.{pick}
 use Rattle.memory.specs.declared.PAddr.{PAddr}
@@ -206,9 +205,8 @@ module _ (cpu : Cpu) (cp0 : Cp0) (regs tlb : List ℕ) (look : PAddr → Eight) 
 
   pub effect-keeps : (lines : ℕ) → Keeps cp0 (effectOf cpu cp0 regs tlb look lines)
   unfolding effectOf
-  effect-keeps lines = go (eqb (getD regs 0 0) 0) (interrupted (cp0 .status) (cp0 .cause) lines)
+  effect-keeps lines = go (interrupted (cp0 .status) (cp0 .cause) lines)
     where
-      go : (a b : Bool) → Keeps cp0 (pick a (pick b (raised Int) (begun cpu cp0 regs tlb look lines (fetched cpu cp0 tlb look))) (stopped 19))
-      go true true = raised-keeps _
-      go true false = begun-keeps lines _
-      go false b = stopped-keeps 19
+      go : (b : Bool) → Keeps cp0 (pick b (raised Int) (begun cpu cp0 regs tlb look lines (fetched cpu cp0 tlb look)))
+      go true = raised-keeps _
+      go false = begun-keeps lines _

@@ -114,14 +114,14 @@ module _ (c : Call) where
       go (no l) d = left (is-accepted c (λ x y. l x)) .within
       go (yes l) (no u) = left (is-accepted c (λ x y. u y)) .within
 
-  numbers : (run c .stop ≤ 4) ⊎ ((16 ≤ run c .stop) × (run c .stop ≤ 19))
+  numbers : (run c .stop ≤ 4) ⊎ ((16 ≤ run c .stop) × (run c .stop ≤ 18))
   numbers = go (decLe 1 (run c .stop)) (decLe (run c .stop) 4)
     where
-      of : Accepted c → AllOn ⊎ OneStops → (run c .stop ≤ 4) ⊎ ((16 ≤ run c .stop) × (run c .stop ≤ 19))
+      of : Accepted c → AllOn ⊎ OneStops → (run c .stop ≤ 4) ⊎ ((16 ≤ run c .stop) × (run c .stop ≤ 18))
       of a (inl o) = let z = all-stop a o in inl (omega arith)
       of a (inr t) = inr (rw (stop-of a t) (stop-least _ _ _ _ (t .stop)))
 
-      go : Dec (1 ≤ run c .stop) → Dec (run c .stop ≤ 4) → (run c .stop ≤ 4) ⊎ ((16 ≤ run c .stop) × (run c .stop ≤ 19))
+      go : Dec (1 ≤ run c .stop) → Dec (run c .stop ≤ 4) → (run c .stop ≤ 4) ⊎ ((16 ≤ run c .stop) × (run c .stop ≤ 18))
       go l (yes u) = inl u
       go l (no u) = of (is-accepted c (λ x y. u y)) how
 
@@ -132,7 +132,6 @@ module _ (c : Call) where
         sixteen = (stops 16 (omega arith), stopped 16 (omega arith));
         seventeen = (stops 17 (omega arith), stopped 17 (omega arith));
         eighteen = (stops 18 (omega arith), stopped 18 (omega arith));
-        nineteen = (stops 19 (omega arith), stopped 19 (omega arith));
         no-other = numbers;
         within-budget = within;
         all-used = λ e. let u = uses e in all-steps (u .accepted) (record { no-stop = u .go-on .no-stop; all-counted = u .go-on .all-counted });

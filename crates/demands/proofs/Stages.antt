@@ -3,7 +3,6 @@ use Prim.Native.Nat.{ℕ}
 use mathlib.Core.Path.{_≡_, refl, sym, _∙_, ap}
 use mathlib.Core.List.{List}
 use lib.ListN.{getD}
-use borrow.Author.Tests.{eq-eqb}
 use Rattle.memory.specs.declared.PAddr.{PAddr}
 use Rattle.memory.specs.declared.Eight.{Eight}
 use Rattle.memory.specs.Memory.{read}
@@ -32,7 +31,7 @@ module _ (m : Machine) (s o : List ℕ) (lines : ℕ) where
 
   pub at-fetch : Fetches m lines → effect m s o lines ≡ after (fetch (goes m 4 (vaddr (m .cpu .pc))))
   unfolding effectOf
-  at-fetch f = rw (eq-eqb _ _ (f .r0-zero), f .no-interrupt)
+  at-fetch f = rw (f .no-interrupt)
 
   pub led : {x : Where} {p : PAddr} → LeadsTo x p → fetch x ≡ wordFound p (read s o p)
   unfolding wordAt

@@ -1,4 +1,4 @@
--- A step and a run of a machine in its range leave one, so a run may be resumed and r0 is never found not zero.
+-- A step and a run of a machine in its range leave one, so a run may be resumed and r0 is 0 before every step.
 use Prim.Native.Nat.{ℕ, zero, suc, _+_, _%_, _≤_}
 use native.Mathlib.Omega.{arith}
 use mathlib.Core.Path.{_≡_, refl, sym, _∙_, ap, subst}
@@ -26,14 +26,11 @@ use Rattle.card.specs.declared.Machine.{Machine}
 use Rattle.card.specs.Machine.{cpuInRange, inRange}
 use Rattle.card.specs.Step.{putReg, apply, stepOf}
 use Rattle.card.specs.Run.{Whole, whole, plus, refusal, steps, runOf}
-use Rattle.demands.specs.StepStops.{r0}
 use Rattle.demands.specs.Call.{run}
 use Rattle.demands.specs.Runs.{after}
-use Rattle.demands.specs.Range.{Good, StepStays, RunStays, R0IsZero, R0Refused, Never19, RunInParts}
-use Rattle.demands.proofs.StepStops.{step-stops}
+use Rattle.demands.specs.Range.{r0, Good, StepStays, RunStays, R0IsZero, R0Refused, RunInParts}
 use Rattle.demands.proofs.Runs.{goes-on, stops, parts}
 use Rattle.demands.proofs.Refusals.{none, zero-accepted, refused-kept, refusals}
-use Rattle.demands.proofs.RunStops.{runs}
 use Rattle.demands.proofs.Range.{Keeps, effect-keeps}
 
 -- ---- one step
@@ -147,7 +144,7 @@ module _ (rom : List ℕ) (lines : ℕ) where
 pub run-stays : RunStays
 run-stays c g = let w = run-stay (c .rom) (c .lines) (c .budget) (c .machine) (c .ram) g in (w .good, w .long)
 
--- ---- r0, and stop 19
+-- ---- r0
 
 pub r0-is-zero : R0IsZero
 r0-is-zero c registers slots a k =
@@ -162,12 +159,6 @@ pub r0-refused : R0Refused
 r0-refused c ram rom lines n =
     let e : run c .stop ≡ 4 = refusals c .four .1 (ram, rom, lines, out-of-range (c .machine) n) in
     refused-kept c (omega arith) (omega arith) ∙ ap (λ (k : ℕ). whole (c .machine) (c .ram) 0 k) e
-
-pub never-19 : Never19
-never-19 c registers slots e =
-    let s = runs c .nineteen .0 e in
-    step-stops (after c (s .before) .machine) (after c (s .before) .ram) (c .rom) (c .lines) .nineteen .0 (s .stops)
-    (r0-is-zero c registers slots (s .accepted) (s .before))
 
 -- ---- a run in parts
 

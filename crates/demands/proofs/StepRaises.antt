@@ -4,7 +4,6 @@ use native.Mathlib.Omega.{arith}
 use mathlib.Core.Path.{_≡_, refl, sym, _∙_, ap, subst}
 use mathlib.Core.Bool.{Bool}
 use mathlib.Core.List.{List}
-use borrow.Author.Tests.{eq-eqb}
 use Rattle.memory.specs.declared.PAddr.{PAddr}
 use Rattle.memory.specs.declared.Eight.{Eight}
 use Rattle.memory.specs.declared.Eight.the-variants.{Missing}
@@ -36,7 +35,7 @@ use Rattle.demands.proofs.Onward.{entering}
 use Rattle.demands.proofs.Checks.{unusable-ready, reserved-ready}
 use Rattle.demands.proofs.Stages as stages
 use Rattle.demands.proofs.Why.{Why, effect-why}
-use Rattle.demands.proofs.Why.Why.{goes-on, enters, twice, in-a-slot, not-built, not-zero}
+use Rattle.demands.proofs.Why.Why.{goes-on, enters, twice, in-a-slot, not-built}
 
 -- ---- from a stage's fact to what the stage raises
 
@@ -81,7 +80,7 @@ module _ (m : Machine) (s o : List ℕ) (lines : ℕ) where
 
   raises-raised : {e : Exception} → Raises m s o lines e → effect m s o lines ≡ raised e
   unfolding effectOf wordFound begun readied executed asked
-  raises-raised (interrupt z i) = rw (eq-eqb _ _ z, i)
+  raises-raised (interrupt i) = rw i
   raises-raised (fetch-fault f r) = stages.at-fetch m s o lines f ∙ fetch-faults r
   raises-raised (fetch-bus p f l e) = stages.at-fetch m s o lines f ∙ ap (stages.after m s o lines) (stages.led m s o lines l) ∙ rw e
   raises-raised (unusable w u b k) =
@@ -109,7 +108,6 @@ module _ (m : Machine) (s o : List ℕ) (lines : ℕ) where
       go (twice k h) = absurd (still h)
       go (in-a-slot k h) = absurd (still h)
       go (not-built k h) = absurd (still h)
-      go (not-zero k h) = absurd (still h)
 
   raised-enters : (e : Exception) → Raises m s o lines e → effect m s o lines .turn ≡ Enter e
   unfolding raised turned

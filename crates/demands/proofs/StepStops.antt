@@ -4,7 +4,6 @@ use native.Mathlib.Omega.{arith}
 use mathlib.Core.Path.{_≡_, refl, sym, _∙_, ap}
 use mathlib.Core.List.{List}
 use mathlib.Core.Logic.{inl, inr}
-use borrow.Author.Tests.{ne-eqb}
 use Rattle.memory.specs.Memory.{read}
 use Rattle.memory.specs.Stores.{putBytes}
 use Rattle.tlb.specs.Slot.{putSlot}
@@ -14,17 +13,17 @@ use Rattle.access.specs.declared.Effect.{Effect}
 use Rattle.access.specs.Effect.{turned, raised, stopped}
 use Rattle.access.specs.Access.{loaded, saved}
 use Rattle.access.specs.Fetch.{wordAt}
-use Rattle.effect.specs.Step.{fromProbe, tlbDone, movedTo, asked, commanded, executed, readied, begun, effectOf}
+use Rattle.effect.specs.Step.{fromProbe, tlbDone, movedTo, asked, commanded, executed, readied, begun}
 use Rattle.effect.specs.After.{cpuAfter, cp0After}
 use Rattle.card.specs.declared.Machine.{Machine}
 use Rattle.card.specs.Step.{Out, out, putReg, apply, stepOf}
-use Rattle.demands.specs.StepStops.{r0, effect, readiness, Twice, BranchInSlot, MoveNotBuilt, StepStops}
+use Rattle.demands.specs.StepStops.{effect, readiness, Twice, BranchInSlot, MoveNotBuilt, StepStops}
 use Rattle.demands.specs.StepStops.Holds.{ram}
 use Rattle.demands.specs.StepStops.Twice.{at-fetch, at-load, at-store, at-probe}
 use Rattle.demands.proofs.Checks.{slot-in}
 use Rattle.demands.proofs.Stages as stages
 use Rattle.demands.proofs.Why.{Why, effect-why}
-use Rattle.demands.proofs.Why.Why.{goes-on, enters, twice, in-a-slot, not-built, not-zero}
+use Rattle.demands.proofs.Why.Why.{goes-on, enters, twice, in-a-slot, not-built}
 
 module _ (m : Machine) (s o : List ℕ) (lines : ℕ) where
   -- ---- from the case to the stop
@@ -49,10 +48,6 @@ module _ (m : Machine) (s o : List ℕ) (lines : ℕ) where
   unfolding executed commanded movedTo
   move-stops b = stages.at-executed m s o lines _ (b .executes) ∙ rw (b .not-built)
 
-  r0-stops : (r0 m ≡ 0 → ⊥) → effect m s o lines ≡ stopped 19
-  unfolding effectOf
-  r0-stops n = rw (ne-eqb _ _ n)
-
   -- ---- the step
 
   stop-is : (n : ℕ) → effect m s o lines ≡ stopped n → stepOf m s o lines .stop ≡ n
@@ -73,8 +68,8 @@ module _ (m : Machine) (s o : List ℕ) (lines : ℕ) where
 
   -- what a number says of the case, given that the cases are told apart by it
   only : (P : Type 0) (n : ℕ) → stepOf m s o lines .stop ≡ n
-      → (n ≡ 0 → P) → (n ≡ 16 → Twice m s o lines → P) → (n ≡ 17 → BranchInSlot m s o lines → P) → (n ≡ 18 → MoveNotBuilt m s o lines → P) → (n ≡ 19 → (r0 m ≡ 0 → ⊥) → P) → P
-  only P n e on a b c d = go (effect-why m s o lines)
+      → (n ≡ 0 → P) → (n ≡ 16 → Twice m s o lines → P) → (n ≡ 17 → BranchInSlot m s o lines → P) → (n ≡ 18 → MoveNotBuilt m s o lines → P) → P
+  only P n e on a b c = go (effect-why m s o lines)
     where
       go : Why m s o lines (effect m s o lines) → P
       go (goes-on h) = on (sym e ∙ stop-on (h .stop))
@@ -82,7 +77,6 @@ module _ (m : Machine) (s o : List ℕ) (lines : ℕ) where
       go (twice t h) = a (sym e ∙ stop-is 16 h) t
       go (in-a-slot t h) = b (sym e ∙ stop-is 17 h) t
       go (not-built t h) = c (sym e ∙ stop-is 18 h) t
-      go (not-zero t h) = d (sym e ∙ stop-is 19 h) t
 
   pub stopped-kept : (stepOf m s o lines .stop ≡ 0 → ⊥) → stepOf m s o lines ≡ out m s (stepOf m s o lines .stop)
   stopped-kept n = go (effect-why m s o lines)
@@ -96,24 +90,22 @@ module _ (m : Machine) (s o : List ℕ) (lines : ℕ) where
       go (twice t h) = still 16 h
       go (in-a-slot t h) = still 17 h
       go (not-built t h) = still 18 h
-      go (not-zero t h) = still 19 h
 
   pub step-stops : StepStops m s o lines
   step-stops =
       record {
-        sixteen = (λ e. only _ 16 e (λ z. absurd (omega arith)) (λ z t. t) (λ z t. absurd (omega arith)) (λ z t. absurd (omega arith)) (λ z t. absurd (omega arith)), λ t. stop-is 16 (twice-stops t));
-        seventeen = (λ e. only _ 17 e (λ z. absurd (omega arith)) (λ z t. absurd (omega arith)) (λ z t. t) (λ z t. absurd (omega arith)) (λ z t. absurd (omega arith)), λ t. stop-is 17 (slot-stops t));
-        eighteen = (λ e. only _ 18 e (λ z. absurd (omega arith)) (λ z t. absurd (omega arith)) (λ z t. absurd (omega arith)) (λ z t. t) (λ z t. absurd (omega arith)), λ t. stop-is 18 (move-stops t));
-        nineteen = (λ e. only _ 19 e (λ z. absurd (omega arith)) (λ z t. absurd (omega arith)) (λ z t. absurd (omega arith)) (λ z t. absurd (omega arith)) (λ z t. t), λ t. stop-is 19 (r0-stops t));
+        sixteen = (λ e. only _ 16 e (λ z. absurd (omega arith)) (λ z t. t) (λ z t. absurd (omega arith)) (λ z t. absurd (omega arith)), λ t. stop-is 16 (twice-stops t));
+        seventeen = (λ e. only _ 17 e (λ z. absurd (omega arith)) (λ z t. absurd (omega arith)) (λ z t. t) (λ z t. absurd (omega arith)), λ t. stop-is 17 (slot-stops t));
+        eighteen = (λ e. only _ 18 e (λ z. absurd (omega arith)) (λ z t. absurd (omega arith)) (λ z t. absurd (omega arith)) (λ z t. t), λ t. stop-is 18 (move-stops t));
         no-other =
             only _ (stepOf m s o lines .stop) refl
-            (λ z. inl z) (λ z t. inr (inl z)) (λ z t. inr (inr (inl z))) (λ z t. inr (inr (inr (inl z)))) (λ z t. inr (inr (inr (inr z))));
+            (λ z. inl z) (λ z t. inr (inl z)) (λ z t. inr (inr (inl z))) (λ z t. inr (inr (inr z)));
         same-machine = λ n. ap (λ (x : Out). x .machine) (stopped-kept n);
         same-ram = λ n. ap (λ (x : Out). x .ram) (stopped-kept n);
       }
 
-  -- a stop is at least 16 and at most 19
-  pub stop-least : (stepOf m s o lines .stop ≡ 0 → ⊥) → (16 ≤ stepOf m s o lines .stop) × (stepOf m s o lines .stop ≤ 19)
+  -- a stop is at least 16 and at most 18
+  pub stop-least : (stepOf m s o lines .stop ≡ 0 → ⊥) → (16 ≤ stepOf m s o lines .stop) × (stepOf m s o lines .stop ≤ 18)
   stop-least n =
       only _ (stepOf m s o lines .stop) refl
-      (λ z. absurd (n z)) (λ z t. (omega arith, omega arith)) (λ z t. (omega arith, omega arith)) (λ z t. (omega arith, omega arith)) (λ z t. (omega arith, omega arith))
+      (λ z. absurd (n z)) (λ z t. (omega arith, omega arith)) (λ z t. (omega arith, omega arith)) (λ z t. (omega arith, omega arith))

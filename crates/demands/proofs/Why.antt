@@ -4,8 +4,6 @@ use native.Mathlib.Omega.{arith}
 use mathlib.Core.Path.{_≡_, refl, sym, subst}
 use mathlib.Core.Bool.{Bool, true, false}
 use mathlib.Core.List.{List}
-use lib.Dec.{eqb}
-use borrow.Author.Tests.{eqb-true, eqb-false}
 use Rattle.promise.specs.Pick.{pick}
 use Rattle.memory.specs.declared.PAddr.{PAddr}
 use Rattle.memory.specs.declared.Eight.{Eight}
@@ -52,7 +50,7 @@ use Rattle.access.specs.Fetch.{wordFound, wordAt}
 use Rattle.effect.specs.Step as step
 use Rattle.effect.specs.Step.{fromSlot, fromProbe, tlbDone, movedTo, asked, commanded, executed, readied, begun, effectOf}
 use Rattle.card.specs.declared.Machine.{Machine}
-use Rattle.demands.specs.StepStops.{r0, effect, goes, Fetches, LeadsTo, Holds, Brings, readiness, Executes, Twice, BranchInSlot, MoveNotBuilt}
+use Rattle.demands.specs.StepStops.{effect, goes, Fetches, LeadsTo, Holds, Brings, readiness, Executes, Twice, BranchInSlot, MoveNotBuilt}
 use Rattle.demands.specs.StepStops.LeadsTo.{mapped, unmapped}
 use Rattle.demands.specs.StepStops.Holds.{ram, rom}
 use Rattle.demands.specs.StepStops.Twice.{at-fetch, at-load, at-store, at-probe}
@@ -71,7 +69,6 @@ module _ (m : Machine) (s o : List ℕ) (lines : ℕ) where
     twice : Twice m s o lines → e ≡ stopped 16 → Why e
     in-a-slot : BranchInSlot m s o lines → e ≡ stopped 17 → Why e
     not-built : MoveNotBuilt m s o lines → e ≡ stopped 18 → Why e
-    not-zero : (r0 m ≡ 0 → ⊥) → e ≡ stopped 19 → Why e
 
   -- it goes on and sends nothing out
   on : (t : Turn) (reg value : ℕ) (w : SlotWrite) → entering t ≡ false → Why (effects t reg value w Nowhere 0)
@@ -209,10 +206,9 @@ module _ (m : Machine) (s o : List ℕ) (lines : ℕ) where
 
   pub effect-why : Why (effect m s o lines)
   unfolding effectOf
-  effect-why = go (eqb (r0 m) 0) refl (interrupted (m .cp0 .status) (m .cp0 .cause) lines) refl
+  effect-why = go (interrupted (m .cp0 .status) (m .cp0 .cause) lines) refl
     where
-      go : (a : Bool) → eqb (r0 m) 0 ≡ a → (b : Bool) → interrupted (m .cp0 .status) (m .cp0 .cause) lines ≡ b
-          → Why (pick a (pick b (raised Int) (stages.after m s o lines (stages.fetch m s o lines (goes m 4 (vaddr (m .cpu .pc)))))) (stopped 19))
-      go true p true q = enters _ (interrupt (eqb-true _ _ p) q) refl
-      go true p false q = fetch-why (record { r0-zero = eqb-true _ _ p; no-interrupt = q }) _ refl
-      go false p b q = not-zero (eqb-false _ _ p) refl
+      go : (b : Bool) → interrupted (m .cp0 .status) (m .cp0 .cause) lines ≡ b
+          → Why (pick b (raised Int) (stages.after m s o lines (stages.fetch m s o lines (goes m 4 (vaddr (m .cpu .pc))))))
+      go true q = enters _ (interrupt q) refl
+      go false q = fetch-why (record { no-interrupt = q }) _ refl

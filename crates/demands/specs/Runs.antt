@@ -1,4 +1,4 @@
--- How a run ends, how many steps it counts, and that it may be made in parts (N1, N10 to N14, N17, N20).
+-- How a run ends, how many steps it counts, and that it may be made in parts (N1, N10 to N12, N14, N17, N20).
 use Prim.Native.Nat.{ℕ, _+_, _<_, _≤_}
 use mathlib.Core.Path.{_≡_}
 use mathlib.Core.List.{List}
@@ -29,7 +29,7 @@ pub record UsesBudget (c : Call) : Type 0 where
   pub accepted : Accepted c
   pub go-on : GoOn c (c .budget)
 
--- the call is accepted, and within its budget some steps go on and the one after them stops with n (N10 to N13)
+-- the call is accepted, and within its budget some steps go on and the one after them stops with n (N10 to N12)
 pub record StopsWith (c : Call) (n : ℕ) : Type 0 where
   pub accepted : Accepted c
   pub before : ℕ
@@ -43,8 +43,7 @@ pub record Runs (c : Call) : Type 0 where
   pub sixteen : (run c .stop ≡ 16) ↔ StopsWith c 16
   pub seventeen : (run c .stop ≡ 17) ↔ StopsWith c 17
   pub eighteen : (run c .stop ≡ 18) ↔ StopsWith c 18
-  pub nineteen : (run c .stop ≡ 19) ↔ StopsWith c 19
-  pub no-other : (run c .stop ≤ 4) ⊎ ((16 ≤ run c .stop) × (run c .stop ≤ 19))
+  pub no-other : (run c .stop ≤ 4) ⊎ ((16 ≤ run c .stop) × (run c .stop ≤ 18))
   pub within-budget : run c .steps ≤ c .budget
   pub all-used : run c .stop ≡ 0 → run c .steps ≡ c .budget
   pub counted : Accepted c → GoOn c (run c .steps)

@@ -33,7 +33,7 @@ use Rattle.effect.specs.After.{cpuAfter, cp0After}
 use Rattle.card.specs.declared.Machine.{Machine}
 use Rattle.card.specs.Machine.{machine}
 use Rattle.card.specs.Step.{out, stepOf}
-use Rattle.demands.specs.StepStops.{r0, goes, effect, Fetches, LeadsTo, Brings, Executes}
+use Rattle.demands.specs.StepStops.{goes, effect, Fetches, LeadsTo, Brings, Executes}
 
 -- an address that is fetched or loaded from does not lead on: address error, refill, invalid (S5, S7)
 pub data ReadFault (v : VAddr) : Where → Exception → Type 0 where
@@ -79,7 +79,7 @@ pub data OfExecute : Exception → Type 0 where
 
 -- what a step raises
 pub data Raises (m : Machine) (ram rom : List ℕ) (lines : ℕ) : Exception → Type 0 where
-  interrupt : r0 m ≡ 0 → interrupted (m .cp0 .status) (m .cp0 .cause) lines ≡ true → Raises m ram rom lines Int
+  interrupt : interrupted (m .cp0 .status) (m .cp0 .cause) lines ≡ true → Raises m ram rom lines Int
   fetch-fault : {e : Exception} → Fetches m lines → ReadFault (vaddr (m .cpu .pc)) (goes m 4 (vaddr (m .cpu .pc))) e → Raises m ram rom lines e
   fetch-bus : (p : PAddr) → Fetches m lines → LeadsTo (goes m 4 (vaddr (m .cpu .pc))) p → read ram rom p ≡ Missing → Raises m ram rom lines IBE
   unusable : (w unit : ℕ) → Brings m ram rom lines w → Unusable (user (m .cp0 .status)) (CU0 (m .cp0 .status)) (decode w) unit → Raises m ram rom lines (CpU unit)

@@ -1,4 +1,4 @@
--- The stops of one step, each exactly in its case over the stages of the step's definition (N10 to N14, N17 to N19).
+-- The stops of one step, each exactly in its case over the stages of the step's definition (N10 to N12, N14, N17 to N19).
 use Prim.Native.Nat.{ℕ}
 use mathlib.Core.Path.{_≡_}
 use mathlib.Core.Bool.{true, false}
@@ -42,10 +42,6 @@ use Rattle.effect.specs.Step.{leads, effectOf}
 use Rattle.card.specs.declared.Machine.{Machine}
 use Rattle.card.specs.Step.{stepOf}
 
--- the value of r0
-abbrev pub r0 : Machine → ℕ
-r0 m = getD (m .regs) 0 0
-
 -- where an address leads, by the machine's mode, ASID and TLB
 abbrev pub goes : Machine → ℕ → VAddr → Where
 goes m align v = leads (m .cp0) (m .tlb) align v
@@ -54,9 +50,8 @@ goes m align v = leads (m .cp0) (m .tlb) align v
 abbrev pub effect : Machine → List ℕ → List ℕ → ℕ → Effect
 effect m ram rom lines = effectOf (m .cpu) (m .cp0) (m .regs) (m .tlb) (read ram rom) lines
 
--- the step comes to its fetch: r0 is 0 and no interrupt is taken (S2)
+-- the step comes to its fetch: no interrupt is taken (S2)
 pub record Fetches (m : Machine) (lines : ℕ) : Type 0 where
-  pub r0-zero : r0 m ≡ 0
   pub no-interrupt : interrupted (m .cp0 .status) (m .cp0 .cause) lines ≡ false
 
 -- it leads to a physical address
@@ -119,8 +114,7 @@ pub record StepStops (m : Machine) (ram rom : List ℕ) (lines : ℕ) : Type 0 w
   pub sixteen : (stepOf m ram rom lines .stop ≡ 16) ↔ Twice m ram rom lines
   pub seventeen : (stepOf m ram rom lines .stop ≡ 17) ↔ BranchInSlot m ram rom lines
   pub eighteen : (stepOf m ram rom lines .stop ≡ 18) ↔ MoveNotBuilt m ram rom lines
-  pub nineteen : (stepOf m ram rom lines .stop ≡ 19) ↔ (r0 m ≡ 0 → ⊥)
   pub no-other :
-      (stepOf m ram rom lines .stop ≡ 0) ⊎ (stepOf m ram rom lines .stop ≡ 16) ⊎ (stepOf m ram rom lines .stop ≡ 17) ⊎ (stepOf m ram rom lines .stop ≡ 18) ⊎ (stepOf m ram rom lines .stop ≡ 19)
+      (stepOf m ram rom lines .stop ≡ 0) ⊎ (stepOf m ram rom lines .stop ≡ 16) ⊎ (stepOf m ram rom lines .stop ≡ 17) ⊎ (stepOf m ram rom lines .stop ≡ 18)
   pub same-machine : (stepOf m ram rom lines .stop ≡ 0 → ⊥) → stepOf m ram rom lines .machine ≡ m
   pub same-ram : (stepOf m ram rom lines .stop ≡ 0 → ⊥) → stepOf m ram rom lines .ram ≡ ram

@@ -1,8 +1,7 @@
 -- One step in document 01's order: interrupt, fetch, decode, execute and what it asks for (S1 to S7).
-use Prim.Native.Nat.{ℕ, _+_, _/_, _%_, _^_}
+use Prim.Native.Nat.{ℕ, _%_}
 use mathlib.Core.List.{List}
 use mathlib.Core.Bool.{Bool}
-use lib.Dec.{eqb}
 use lib.ListN.{getD}
 use Rattle.promise.specs.Pick.{pick}
 use Rattle.word.specs.Word.{extend}
@@ -133,9 +132,7 @@ begun cpu cp0 regs tlb look lines fetch.Double = stopped 16
 abbrev pub fetched : Cpu → Cp0 → List ℕ → (PAddr → Eight) → Fetched
 fetched cpu cp0 tlb look = wordAt (vaddr (cpu .pc)) look (leads cp0 tlb 4 (vaddr (cpu .pc)))
 
--- a step: stop 19 first of all, then the interrupt, then the fetch (N13, S2)
+-- a step: the interrupt, then the fetch (S2)
 unfoldable pub effectOf : Cpu → Cp0 → List ℕ → List ℕ → (PAddr → Eight) → ℕ → Effect
 effectOf cpu cp0 regs tlb look lines =
-    pick (eqb (getD regs 0 0) 0)
-    (pick (interrupted (cp0 .status) (cp0 .cause) lines) (raised Int) (begun cpu cp0 regs tlb look lines (fetched cpu cp0 tlb look)))
-    (stopped 19)
+    pick (interrupted (cp0 .status) (cp0 .cause) lines) (raised Int) (begun cpu cp0 regs tlb look lines (fetched cpu cp0 tlb look))

@@ -102,7 +102,7 @@ fn begun<'a>(
     }
 }
 
-// What a step comes to: stop 19 first of all, then the interrupt, then the fetch.
+// What a step comes to: the interrupt, then the fetch.
 pub fn effect_of<'a>(
     cpu: Cpu,
     cp0: Cp0,
@@ -114,9 +114,6 @@ pub fn effect_of<'a>(
 ) -> Effect
     ensures { λ r. ⌜ r ≡ Rule.effectOf cpu cp0 (now (regs .entry)) (now (tlb .entry)) (read (now (ram .entry)) (now (rom .entry))) lines ⌝ }
 {
-    if regs[0] != 0 {
-        return stopped(19);
-    }
     if cp0::interrupted(cp0.status, cp0.cause, lines) {
         return raised(Exception::Int);
     }

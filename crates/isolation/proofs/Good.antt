@@ -4,8 +4,6 @@ use native.Mathlib.Omega.{arith}
 use mathlib.Core.Path.{_≡_, refl, sym, _∙_, ap}
 use mathlib.Core.List.{List}
 use mathlib.Core.Bool.{Bool, true, false}
-use lib.Dec.{eqb}
-use lib.ListN.{getD}
 use Rattle.promise.specs.Pick.{pick, both}
 use Rattle.memory.specs.declared.PAddr.{PAddr}
 use Rattle.memory.specs.declared.Eight.{Eight}
@@ -241,9 +239,8 @@ module _ (cpu : Cpu) (cp0 : Cp0) (regs tlb : List ℕ) (u : user (cp0 .status) �
 
   pub effect-good : (lines : ℕ) → Good cp0 tlb (effectOf cpu cp0 regs tlb look lines)
   unfolding effectOf
-  effect-good lines = go (eqb (getD regs 0 0) 0) (interrupted (cp0 .status) (cp0 .cause) lines)
+  effect-good lines = go (interrupted (cp0 .status) (cp0 .cause) lines)
     where
-      go : (a b : Bool) → Good cp0 tlb (pick a (pick b (raised Int) (begun cpu cp0 regs tlb look lines (fetched cpu cp0 tlb look))) (stopped 19))
-      go true true = raised-good _
-      go true false = begun-good lines _
-      go false b = stopped-good _
+      go : (b : Bool) → Good cp0 tlb (pick b (raised Int) (begun cpu cp0 regs tlb look lines (fetched cpu cp0 tlb look)))
+      go true = raised-good _
+      go false = begun-good lines _

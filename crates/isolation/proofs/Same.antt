@@ -3,8 +3,6 @@ use Prim.Native.Nat.{ℕ}
 use mathlib.Core.Path.{_≡_, refl, _∙_, ap}
 use mathlib.Core.List.{List}
 use mathlib.Core.Bool.{Bool, true}
-use lib.Dec.{eqb}
-use lib.ListN.{getD}
 use Rattle.promise.specs.Pick.{pick}
 use Rattle.memory.specs.declared.PAddr.{PAddr}
 use Rattle.memory.specs.declared.Eight.{Eight}
@@ -31,7 +29,7 @@ use Rattle.effect.specs.declared.Cpu.{Cpu}
 use Rattle.access.specs.declared.Fetched.{Fetched}
 use Rattle.access.specs.declared.Fetched.the-variants as fetch
 use Rattle.access.specs.declared.Effect.{Effect}
-use Rattle.access.specs.Effect.{raised, stopped}
+use Rattle.access.specs.Effect.{raised}
 use Rattle.access.specs.Access.{got, loaded, saved}
 use Rattle.access.specs.Fetch.{wordFound, wordAt}
 use Rattle.effect.specs.Step as step
@@ -106,5 +104,5 @@ module _ (cpu : Cpu) (cp0 : Cp0) (regs tlb : List ℕ) (u : user (cp0 .status) �
   pub effect-same : (lines : ℕ) → effectOf cpu cp0 regs tlb r₁ lines ≡ effectOf cpu cp0 regs tlb r₂ lines
   unfolding effectOf
   effect-same lines =
-      ap (λ (e : Effect). pick (eqb (getD regs 0 0) 0) (pick (interrupted (cp0 .status) (cp0 .cause) lines) (raised Int) e) (stopped 19))
+      ap (λ (e : Effect). pick (interrupted (cp0 .status) (cp0 .cause) lines) (raised Int) e)
       (ap (begun cpu cp0 regs tlb r₁ lines) (word-same _ refl) ∙ begun-same lines _)

@@ -5,6 +5,7 @@ scripted() {
   examples
   examples_are_built
   help_can_be_pasted
+  help_has_every_beginning
   closed_pipes
   # shellcheck source=tests/front/safe.sh
   . "$tests/safe.sh"
@@ -43,6 +44,19 @@ help_can_be_pasted() {
     bash "$T/pasted.sh" >"$T/wrote" 2>&1
     hold "examples of $page" [ $? -eq 0 ]
   done
+}
+
+# The beginnings of an answer that help lists are those that explain takes, each with a meaning; no other of these numbers is.
+help_has_every_beginning() {
+  local number tag
+  for tag in 0e 0f; do
+    for number in 00 01 02 03 04 05 06 07 08 09 0f 10 11 12 13 14 ff; do
+      { printf '%s%s00000003\n' "$tag" "$number" && { [ $tag = 0e ] || echo 0122ffffffff80000008; }; } >"$T/answer"
+      ! ./card explain "$T/answer" 2>"$T/said" | grep -qE '^(Stop|Refused:) [0-9]+[:,] [a-z]' || echo "$tag$number"
+    done
+  done >"$T/taken"
+  grep -oE '0[ef][0-9a-f]{2}  ' front/help/explain.txt | tr -d ' ' | sort >"$T/listed"
+  hold "the beginnings that help explain lists" cmp "$T/taken" "$T/listed"
 }
 
 # A reader that goes away makes no noise, and leaves nothing behind.

@@ -5,10 +5,6 @@ use borrow.Author.Needs.{needs}
 use Rattle.card.proofs.inner.put_reg.Statement.{statement}
 use Rattle.card.proofs.inner.put_reg.Tie as tie
 
-returns : tie.Need-returns
-unfolding putReg
-returns c = simp (eq-eqb _ _ (c .if1 .taken))
-
 mul-regs : tie.Need-mul-regs
 mul-regs c = search needs
 
@@ -18,6 +14,10 @@ element-write-regs c = search needs
 returns-2 : tie.Need-returns-2
 unfolding putReg
 returns-2 c = simp (ne-eqb _ _ (c .if1 .left))
+
+returns : tie.Need-returns
+unfolding putReg
+returns c = simp (eq-eqb _ _ (c .if1 .taken))
 
 pub put-reg-spec : {M : Type 1} → statement M
 put-reg-spec = tie.close (tie.spec returns mul-regs element-write-regs returns-2)

@@ -29,7 +29,6 @@ pub enum Stop {
     DoubleMatch,
     BranchInSlot,
     NotBuilt,
-    RegisterZero,
 }
 
 /// What keeps an instruction from being done.
@@ -46,7 +45,6 @@ impl Stop {
             Stop::DoubleMatch => 16,
             Stop::BranchInSlot => 17,
             Stop::NotBuilt => 18,
-            Stop::RegisterZero => 19,
         }
     }
 }
@@ -182,7 +180,7 @@ mod tests {
     fn codes_and_stop_numbers() {
         assert_eq!(Exception::Interrupt.code(), 0);
         assert_eq!(Exception::Trap.code(), 13);
-        let numbers = [Stop::DoubleMatch, Stop::BranchInSlot, Stop::NotBuilt, Stop::RegisterZero];
-        assert_eq!(numbers.map(Stop::number), [16, 17, 18, 19]);
+        let numbers = [Stop::DoubleMatch, Stop::BranchInSlot, Stop::NotBuilt];
+        assert_eq!(numbers.map(Stop::number), [16, 17, 18]);
     }
 }

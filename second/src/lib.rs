@@ -27,3 +27,5 @@ pub mod word;
 
 #[cfg(test)]
 mod bench;
+#[cfg(test)]
+mod destination;

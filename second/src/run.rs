@@ -10,7 +10,7 @@ const LINES_MOST: u32 = 31;
 /// How a run ended.
 #[derive(Clone, Copy, Debug, PartialEq, Eq)]
 pub struct Ending {
-    /// Zero, a refusal (1 to 4) or a stop (16 to 19).
+    /// Zero, a refusal (1 to 4) or a stop (16 to 18).
     pub number: u32,
     /// The steps counted.
     pub steps: u32,
@@ -52,15 +52,18 @@ mod tests {
     fn refusals_come_in_order_and_change_nothing() {
         let mut machine = Machine::fresh();
         machine.gpr[0] = 1;
+        machine.pc = 0xffff_ffff_8000_0000;
         let before = machine.clone();
+        // sb r1, 0(r0), which would change RAM
+        let store = [0xa0, 1, 0, 0];
         let cases: [(usize, usize, u32, u32); 4] =
             [(4, 4, 32, 1), (8, 4, 32, 2), (8, 0, 32, 3), (8, 0, 31, 4)];
         for (ram_length, rom_length, lines, number) in cases {
-            let mut ram = vec![0; ram_length];
+            let mut ram = store.repeat(ram_length / 4);
             let rom = vec![0; rom_length];
             let mut memory = Memory { ram: &mut ram, rom: &rom };
             assert_eq!(run(&mut machine, &mut memory, lines, 9), Ending { number, steps: 0 });
-            assert_eq!(machine, before);
+            assert_eq!((&machine, ram), (&before, store.repeat(ram_length / 4)));
         }
     }
 

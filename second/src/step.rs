@@ -50,11 +50,8 @@ fn follow(machine: &mut Machine, flow: Flow) {
     };
 }
 
-/// Takes one step, or stops with the machine and memory as they were.
+/// Takes one step of a machine in range, or stops with the machine and memory as they were.
 pub fn step(machine: &mut Machine, memory: &mut Memory, lines: u32) -> Result<(), Stop> {
-    if machine.gpr[0] != 0 {
-        return Err(Stop::RegisterZero);
-    }
     let mut wired_was_written = false;
     match attempt(machine, memory, lines) {
         Ok(flow) => {
@@ -172,14 +169,18 @@ mod tests {
     }
 
     #[test]
-    fn register_zero_is_looked_at_first() {
+    fn no_step_makes_register_zero_another_number() {
+        // addiu r0, r1, 5; lw r0, 0(r1); mfc0 r0, PRId; ll r0, 0(r1); sc r0, 0(r1); jalr r0, r1
+        let words = [0x2420_0005, 0x8c20_0000, 0x4000_7800, 0xc020_0000, 0xe020_0000, 0x0020_0009];
+        let mut ram = ram(&words);
+        let mut memory = Memory { ram: &mut ram, rom: &[] };
         let mut machine = machine();
-        machine.pc = 1;
-        machine.gpr[0] = 1;
-        let mut memory = Memory { ram: &mut [0; 8], rom: &[] };
-        let before = machine.clone();
-        assert_eq!(step(&mut machine, &mut memory, 0), Err(Stop::RegisterZero));
-        assert_eq!(machine, before);
+        machine.gpr[1] = START;
+        for _ in words {
+            step(&mut machine, &mut memory, 0).unwrap();
+            assert_eq!(machine.gpr[0], 0);
+        }
+        assert_eq!((machine.target, machine.link, machine.cp0.cause), (START, true, 0));
     }
 
     #[test]

@@ -66,6 +66,15 @@ fn register(random: &mut Random) -> u32 {
     }
 }
 
+/// Gives a register to write, r0 about once in 16 times.
+fn destination(random: &mut Random) -> u32 {
+    if random.one_in(16) {
+        0
+    } else {
+        register(random)
+    }
+}
+
 /// Gives an immediate, small ones being likelier.
 fn immediate_value(random: &mut Random) -> u32 {
     match random.below(4) {
@@ -77,12 +86,12 @@ fn immediate_value(random: &mut Random) -> u32 {
 
 /// Gives a word that computes.
 fn computing(random: &mut Random) -> u32 {
-    let (rs, rt, rd) = (register(random), register(random), register(random));
+    let (rs, rt, rd) = (register(random), register(random), destination(random));
     match random.below(4) {
         0 => special(random.pick(&REGISTER_FUNCTIONS), rs, rt, rd, 0),
         1 => special(random.pick(&SHIFT_FUNCTIONS), rs, rt, rd, random.word_below(32)),
         2 => special(random.pick(&HI_LO_FUNCTIONS), rs, rt, rd, 0),
-        _ => immediate(random.pick(&IMMEDIATE_OPCODES), rs, rt, immediate_value(random)),
+        _ => immediate(random.pick(&IMMEDIATE_OPCODES), rs, rd, immediate_value(random)),
     }
 }
 
@@ -97,7 +106,12 @@ fn accessing(random: &mut Random) -> u32 {
     if !random.one_in(12) {
         offset &= !(alignment - 1);
     }
-    access(opcode, register(random), offset & 0xffff, base)
+    // A plain store only reads its register.
+    let rt = match opcode {
+        0x28..=0x2e | 0x3f => register(random),
+        _ => destination(random),
+    };
+    access(opcode, rt, offset & 0xffff, base)
 }
 
 /// Gives a load linked and a conditional store from the same pointer.
@@ -105,11 +119,11 @@ fn linked(random: &mut Random) -> Vec<u32> {
     let base = random.pick(&POINTERS);
     let offset = 8 * random.word_below(8);
     let (load, store) = random.pick(&[(0x30, 0x38), (0x34, 0x3c), (0x30, 0x3c)]);
-    let mut words = vec![access(load, register(random), offset, base)];
+    let mut words = vec![access(load, destination(random), offset, base)];
     if random.one_in(2) {
         words.push(plain(random));
     }
-    words.push(access(store, register(random), offset, base));
+    words.push(access(store, destination(random), offset, base));
     words
 }
 
@@ -168,7 +182,8 @@ fn raising(random: &mut Random) -> u32 {
         10 => 0x4000_0000 | random.word_below(1 << 26),
         11 | 12 => {
             let function = random.pick(&[0x20, 0x22, 0x2c, 0x2e]);
-            special(function, random.pick(&EXTREMES), random.pick(&EXTREMES), rt, 0)
+            let rd = destination(random);
+            special(function, random.pick(&EXTREMES), random.pick(&EXTREMES), rd, 0)
         }
         _ => random.next() as u32,
     }

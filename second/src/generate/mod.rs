@@ -31,8 +31,12 @@ pub fn series(seed: u64, count: u64) -> impl Iterator<Item = Image> {
 mod tests {
     use super::*;
     use crate::answer::whole_answer;
+    use crate::assemble::NOP;
+    use crate::decode::decode;
+    use crate::destination::{destination, words_of};
+    use crate::instruction::{Code, Instruction};
     use crate::many::{join, split};
-    use std::collections::BTreeMap;
+    use std::collections::{BTreeMap, BTreeSet};
 
     #[test]
     fn the_same_seed_gives_the_same_images() {
@@ -58,6 +62,31 @@ mod tests {
                 }
             }
         }
+    }
+
+    #[test]
+    fn words_to_r0_occur_often() {
+        let mut images = 0;
+        let mut kinds = BTreeMap::new();
+        for image in series(5, 400) {
+            let mut found = BTreeSet::new();
+            for word in words_of(&image) {
+                if word != NOP && destination(word) == Some(0) {
+                    found.extend(match decode(Code(word)) {
+                        Instruction::Load(_) => Some("load"),
+                        Instruction::Store(_) => Some("linked store"),
+                        Instruction::JumpRegister { .. } | Instruction::MoveFromCp0 { .. } => None,
+                        _ => Some("computing"),
+                    });
+                }
+            }
+            images += !found.is_empty() as u32;
+            for kind in found {
+                *kinds.entry(kind).or_insert(0) += 1;
+            }
+        }
+        assert!(images > 400 / 3, "{images}");
+        assert!(kinds.len() == 3 && kinds.values().all(|count| *count > 400 / 16), "{kinds:?}");
     }
 
     #[test]

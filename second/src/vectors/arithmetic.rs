@@ -196,41 +196,30 @@ fn single_loop(name: &str, words: &[u32], result: u32) -> Image {
     double_loop(name, &[0], &EDGES, &body)
 }
 
-/// Gives the images of moves to and from HI and LO and of writes to r0.
-fn moves() -> Vec<Image> {
-    let hi_lo = [
+/// Drafts moves to and from HI and LO, also to r0, which is shown in r5 and r6.
+fn hi_lo_moves() -> Image {
+    let code = [
         special(0x11, 1, 0, 0, 0),
         special(0x13, 2, 0, 0, 0),
         special(0x10, 0, 0, 3, 0),
         special(0x12, 0, 0, 4, 0),
         special(0x10, 0, 0, 0, 0),
+        copy(5, 0),
         special(0x12, 0, 0, 0, 0),
+        copy(6, 0),
     ];
-    let zero = [
-        special(0x21, 1, 2, 0, 0),
-        addiu(0, 1, 5),
-        lui(0, 0x1234),
-        special(0x00, 0, 1, 0, 3),
-        ld(0, 0, 10),
-        mfc0(0, 15),
-        special(0x09, 11, 0, 0, 0),
-        NOP,
-    ];
-    vec![
-        Draft::kernel("hi-lo-moves").reg(1, EDGES[10]).reg(2, EDGES[9]).code(&hi_lo).image(),
-        Draft::kernel("r0-stays-zero")
-            .reg(1, EDGES[10])
-            .reg(2, EDGES[9])
-            .reg(10, RAM_HIGH + 0x1000)
-            .reg(11, RAM_HIGH + 0x1100)
-            .code(&zero)
-            .image(),
-    ]
+    Draft::kernel("hi-lo-moves")
+        .reg(1, EDGES[10])
+        .reg(2, EDGES[9])
+        .reg(5, MARK)
+        .reg(6, MARK)
+        .code(&code)
+        .image()
 }
 
 /// Gives all images of this subject.
 pub fn images() -> Vec<Image> {
-    let mut images = moves();
+    let mut images = vec![hi_lo_moves()];
     for (name, function) in REGISTER {
         let body = storing(special(function, 1, 2, 3, 0), 3);
         images.push(double_loop(&format!("{name}-edges"), &EDGES, &EDGES, &body));
@@ -272,7 +261,7 @@ mod tests {
 
     #[test]
     fn loops_end_by_their_stop_and_fill_their_results() {
-        for image in images().iter().skip(2) {
+        for image in images().iter().skip(1) {
             let answer = whole_answer(&image.text, 0, &[]);
             assert!(answer.starts_with("0f11"), "{}", image.name);
         }

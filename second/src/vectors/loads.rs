@@ -68,6 +68,7 @@ fn store_everywhere(name: &str, opcode: u32) -> Image {
 }
 
 /// Drafts a load of a part at one offset into registers with different old values.
+/// The last goes to r0, which is shown in r5.
 fn part_load(name: &str, opcode: u32, offset: u32) -> Image {
     let code = [
         access(opcode, 1, offset, 10),
@@ -75,11 +76,13 @@ fn part_load(name: &str, opcode: u32, offset: u32) -> Image {
         access(opcode, 3, offset + 8, 10),
         access(opcode, 4, offset + 8, 11),
         access(opcode, 0, offset, 10),
+        copy(5, 0),
     ];
     with_data(format!("{name}-offset-{offset}"))
         .reg(1, 0xaabb_ccdd)
         .reg(2, 0x0102_0304_0506_0708)
         .reg(3, u64::MAX)
+        .reg(5, OTHER)
         .code(&code)
         .image()
 }

@@ -15,6 +15,7 @@ mod stops;
 mod timers;
 mod tlb;
 mod user;
+mod zero;
 
 use crate::many::Image;
 
@@ -27,6 +28,7 @@ pub fn all() -> Vec<Image> {
     images.extend(branches::images());
     images.extend(loads::images());
     images.extend(linked::images());
+    images.extend(zero::images());
     images.extend(exceptions::images());
     images.extend(pages::images());
     images.extend(tlb::images());
@@ -44,6 +46,10 @@ pub fn all() -> Vec<Image> {
 mod tests {
     use super::*;
     use crate::answer::whole_answer;
+    use crate::assemble::{copy, sd, NOP};
+    use crate::decode::decode;
+    use crate::destination::{all_to_r0, destination, words_of};
+    use crate::instruction::Code;
     use crate::many::{join, split};
     use std::collections::BTreeSet;
 
@@ -90,5 +96,24 @@ mod tests {
         }
         assert_eq!(numbers, BTreeSet::from([0, 2, 3, 5, 6, 7, 8, 16, 17, 18]));
         assert_eq!(codes, (0..14).collect());
+    }
+
+    /// Tells whether a word stores r0 or copies it.
+    fn shows_r0(word: u32) -> bool {
+        word & 0xfc1f_0000 == sd(0, 0, 0) || word & !(31 << 11) == copy(0, 0)
+    }
+
+    #[test]
+    fn every_instruction_with_a_destination_is_tried_with_r0_and_shows_it() {
+        let kind = |word: u32| format!("{:?}", decode(Code(word)));
+        let mut tried = BTreeSet::new();
+        for image in all() {
+            for pair in words_of(&image).windows(2) {
+                if pair[0] != NOP && destination(pair[0]) == Some(0) && shows_r0(pair[1]) {
+                    tried.insert(kind(pair[0]));
+                }
+            }
+        }
+        assert_eq!(tried, all_to_r0().into_iter().map(kind).collect());
     }
 }

@@ -23,7 +23,7 @@ function fault_of_answer(i, refused) {
     if (answer[1] !~ /^0[ef]/ || !is_answer_line(answer[1]))
         return "this is no answer of cardrun or cardstate: its first line is '" shown(answer[1], 80) \
             "', not a frame 0e or 0f with a number that the card gives" \
-            (frame_fault(answer[1]) ? "" : "; for an image write: ./card list IMAGE")
+            "; " (frame_fault(answer[1]) ? "./card help explain lists these" : "for an image write: ./card list IMAGE")
     refused = answer[1] ~ /^0e/
     for (i = 2; i <= lines; i++)
         if (refused || answer[i] ~ /^0[ef]/ || !is_answer_line(answer[i]))

@@ -1,4 +1,4 @@
--- Three programs from 80000000, run by computation: document 01's ADDIU r8, r0, 5 and ADDU r9, r8, r8 (I16), and two with a branch in a slot.
+-- Four programs from 80000000, run by computation: document 01's ADDIU r8, r0, 5 and ADDU r9, r8, r8 (I16), two with a branch in a slot, and one whose destinations are r0 (W9.1, W9.2).
 use Prim.Native.Nat.{ℕ, _^_, _<_}
 use native.Mathlib.Omega.{arith}
 use mathlib.Core.Path.{_≡_, refl}
@@ -8,9 +8,9 @@ use lib.Count.{ones, onesIn, trailingZeros}
 use lib.ListN.{getD, replicate}
 use Rattle.word.specs.Extend.{extend, register}
 use Rattle.word.specs.Sum.{sum}
-use Rattle.memory.specs.Bytes.{eightOf}
+use Rattle.memory.specs.Bytes.{eightOf, byte, bytesOf}
 use Rattle.memory.specs.Memory.{part, read}
-use Rattle.memory.specs.Loads.{span, lwu}
+use Rattle.memory.specs.Loads.{span, lw, lwu}
 use Rattle.memory.specs.Stores.{putBytes}
 use Rattle.tlb.specs.PageMask.{trailingOnes, legalMask}
 use Rattle.tlb.specs.Slot.{slotAt, putSlot}
@@ -26,21 +26,29 @@ use Rattle.decode.specs.Decode.{byMajor, entryIn, decodeBy}
 use Rattle.usability.specs.Ready.{inPlace, allowed, usable, ready}
 use Rattle.execute.specs.Arithmetic.{arithmetic, arithmeticImmediate}
 use Rattle.flow.specs.Branches.{equal, branchTarget, plain, branch}
+use Rattle.flow.specs.Jumps.{jumpRegister}
+use Rattle.execute.specs.LoadStore.{effective, load, store, loadAlign, storeAlign, finish, goesOut}
 use Rattle.execute.specs.Execute.{execute}
 use Rattle.access.specs.Effect.{wrote, stopped}
 use Rattle.access.specs.Fetch.{wordFound, wordAt}
+use Rattle.access.specs.Access.{linking, got, loaded, sending, sent, saved}
 use Rattle.effect.specs.Step.{asked, executed, readied, decoded, begun, effectOf}
 use Rattle.effect.specs.After.{cpuOf, onward, pending, cpuAfter, cp0After}
 use Rattle.card.specs.declared.Machine.{Machine}
 use Rattle.card.specs.Machine.{machine, freshSlots, cpuInRange, inRange}
 use Rattle.card.specs.Step.{putReg, apply, stepOf}
-use Rattle.card.specs.Run.{Whole, refusalBy, steps, runOf}
+use Rattle.card.specs.Run.{Whole, whole, refusalBy, steps, runOf}
 use Rattle.demands.specs.Call.{Call, run}
+use Rattle.demands.specs.Range.{r0}
 use Rattle.demands.specs.Given.{allBelow, GivenCp0, Given}
 
--- the fresh machine with PC 80000000 (sign-extended), as frame 01 sets it
-unfoldable pub atStart : Machine
-atStart = machine (cpuOf 0xffffffff80000000 false 0 0 0 false) cp0.fresh (replicate 32 0) (freshSlots 48 0)
+-- the fresh machine with PC 80000000 (sign-extended) and these registers, as frames 01 set them
+unfoldable pub startWith : List ℕ → Machine
+startWith regs = machine (cpuOf 0xffffffff80000000 false 0 0 0 false) cp0.fresh regs (freshSlots 48 0)
+
+-- and none but PC
+abbrev pub atStart : Machine
+atStart = startWith (replicate 32 0)
 
 fresh-given : GivenCp0 cp0.fresh
 unfolding cp0.fresh
@@ -62,13 +70,43 @@ branches = called (0x10 ∷ 0x00 ∷ 0x00 ∷ 0x00 ∷ 0x10 ∷ 0x00 ∷ 0x00 �
 abbrev pub branchesLater : Call
 branchesLater = called (0x24 ∷ 0x08 ∷ 0x00 ∷ 0x05 ∷ 0x10 ∷ 0x00 ∷ 0x00 ∷ 0x00 ∷ 0x10 ∷ 0x00 ∷ 0x00 ∷ 0x00 ∷ 0x00 ∷ 0x00 ∷ 0x00 ∷ 0x00 ∷ []) 3
 
+-- ADDIU r0, r0, 5; LL r0, 16(r8); SC r0, 16(r8); JALR r0, r8; and eight bytes, of which LL brings 00000007
+abbrev words : List ℕ
+words = 0x24 ∷ 0x00 ∷ 0x00 ∷ 0x05 ∷ 0xc1 ∷ 0x00 ∷ 0x00 ∷ 0x10 ∷ 0xe1 ∷ 0x00 ∷ 0x00 ∷ 0x10 ∷ 0x01 ∷ 0x00 ∷ 0x00 ∷ 0x09 ∷ 0x00 ∷ 0x00 ∷ 0x00 ∷ 0x07 ∷ 0x00 ∷ 0x00 ∷ 0x00 ∷ 0x09 ∷ []
+
+-- run with this in r0 and 80000000 in r8
+abbrev pub named : ℕ → ℕ → Call
+named zeroth budget =
+    record {
+      rom = [];
+      lines = 0;
+      budget = budget;
+      machine = startWith (zeroth ∷ 0 ∷ 0 ∷ 0 ∷ 0 ∷ 0 ∷ 0 ∷ 0 ∷ 0xffffffff80000000 ∷ replicate 23 0);
+      ram = words;
+    }
+
 -- a run that ended with the number n after k steps and left PC so
 pub record Ran (w : Whole) (n k pc : ℕ) : Type 0 where
   pub stop : w .stop ≡ n
   pub steps : w .steps ≡ k
   pub pc-left : w .machine .cpu .pc ≡ pc
 
--- document 01's program after one step, and after both: r8 is 5 and r9 is 10; and the branches in a slot
+-- each step goes on and leaves r0 as it was; LL set the link bit, SC stored r0, and JALR leads to r8 after its slot; with 1 in r0 the call is refused
+pub record Named : Type 0 where
+  pub addiu : Ran (run (named 0 1)) 0 1 0xffffffff80000004
+  pub addiu-r0 : r0 (run (named 0 1) .machine) ≡ 0
+  pub ll : Ran (run (named 0 2)) 0 2 0xffffffff80000008
+  pub ll-r0 : r0 (run (named 0 2) .machine) ≡ 0
+  pub ll-link : run (named 0 2) .machine .cpu .link ≡ true
+  pub sc : Ran (run (named 0 3)) 0 3 0xffffffff8000000c
+  pub sc-r0 : r0 (run (named 0 3) .machine) ≡ 0
+  pub sc-stored : getD (run (named 0 3) .ram) 19 9 ≡ 0
+  pub jalr : Ran (run (named 0 4)) 0 4 0xffffffff80000010
+  pub jalr-r0 : r0 (run (named 0 4) .machine) ≡ 0
+  pub jalr-target : run (named 0 4) .machine .cpu .target ≡ 0xffffffff80000000
+  pub refused : run (named 1 4) ≡ whole (named 1 4 .machine) words 0 4
+
+-- document 01's program after one step, and after both: r8 is 5 and r9 is 10; the branches in a slot; and r0 as destination
 pub record Worked : Type 0 where
   pub one : Ran (run (program 1)) 0 1 0xffffffff80000004
   pub two : Ran (run (program 2)) 0 2 0xffffffff80000008
@@ -76,9 +114,10 @@ pub record Worked : Type 0 where
   pub r9 : getD (run (program 2) .machine .regs) 9 0 ≡ 10
   pub early : Ran (run branches) 17 1 0xffffffff80000004
   pub late : Ran (run branchesLater) 17 2 0xffffffff80000008
+  pub to-r0 : Named
 
 pub worked : Worked
-unfolding runOf refusalBy inRange cpuInRange cp0InRange entriesInRange controlInRange randomInRange statusInRange configInRange builtStatus legalMask trailingOnes ones onesIn trailingZeros tlbInRange slotsInRange slotInRange slotAt hiInRange loInRange steps stepOf apply putReg putSlot putBytes atStart cp0.fresh freshSlots effectOf interrupted causeRead wordAt wordFound translate aligned extended extend register segment upper modeOf user begun read part eightOf decoded readied ready usable allowed inPlace lwu span decodeBy entryIn byMajor majors specials regimms executed execute arithmeticImmediate arithmetic sum branch plain equal branchTarget asked wrote stopped cpuAfter onward pending cp0After ended counted timed drawn cp0.set
+unfolding runOf refusalBy inRange cpuInRange cp0InRange entriesInRange controlInRange randomInRange statusInRange configInRange builtStatus legalMask trailingOnes ones onesIn trailingZeros tlbInRange slotsInRange slotInRange slotAt hiInRange loInRange steps stepOf apply putReg putSlot putBytes byte bytesOf startWith cp0.fresh cp0.linked freshSlots effectOf interrupted causeRead wordAt wordFound translate aligned extended extend register segment upper modeOf user begun read part eightOf decoded readied ready usable allowed inPlace lw lwu span decodeBy entryIn byMajor majors specials regimms executed execute arithmeticImmediate arithmetic sum branch plain equal branchTarget jumpRegister load store effective loadAlign storeAlign finish goesOut linking got loaded sending sent saved asked wrote stopped cpuAfter onward pending cp0After ended counted timed drawn cp0.set
 worked =
     record {
       one = record { stop = refl; steps = refl; pc-left = refl };
@@ -87,11 +126,26 @@ worked =
       r9 = refl;
       early = record { stop = refl; steps = refl; pc-left = refl };
       late = record { stop = refl; steps = refl; pc-left = refl };
+      to-r0 =
+          record {
+            addiu = record { stop = refl; steps = refl; pc-left = refl };
+            addiu-r0 = refl;
+            ll = record { stop = refl; steps = refl; pc-left = refl };
+            ll-r0 = refl;
+            ll-link = refl;
+            sc = record { stop = refl; steps = refl; pc-left = refl };
+            sc-r0 = refl;
+            sc-stored = refl;
+            jalr = record { stop = refl; steps = refl; pc-left = refl };
+            jalr-r0 = refl;
+            jalr-target = refl;
+            refused = refl;
+          };
     }
 
 -- such a call can be given, whatever its program
 pub given : (ram : List ℕ) (budget : ℕ) → budget < 2 ^ 64 → allBelow 256 ram ≡ true → Given (called ram budget)
-unfolding atStart cp0.fresh freshSlots allBelow
+unfolding startWith cp0.fresh freshSlots allBelow
 given ram budget b r =
     record {
       lines = omega arith;

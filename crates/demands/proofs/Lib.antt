@@ -16,5 +16,4 @@ pub mod Turns
 pub mod Range
 pub mod Stays
 pub mod Example
-pub mod Zero
 pub mod Useless

@@ -6,7 +6,7 @@ use Rattle.card.specs.Machine.{fresh}
 use Rattle.card.specs.Run.{Whole}
 use Rattle.demands.specs.Given.{allBelow, Given}
 use Rattle.demands.specs.Useless.{Emulator, Right, RefusesAll, AlwaysFresh, Untouched, AllAtOnce, MadeUp, Useless}
-use Rattle.demands.proofs.Example.{atStart, program, branches, branchesLater, worked, given}
+use Rattle.demands.proofs.Example.{startWith, atStart, program, branches, branchesLater, worked, given}
 
 -- ---- these calls can be given
 
@@ -29,7 +29,7 @@ late-given = given _ _ (omega arith) refl
 -- ---- PC before and after
 
 start-pc : atStart .cpu .pc ≡ 0xffffffff80000000
-unfolding atStart
+unfolding startWith
 start-pc = refl
 
 fresh-pc : fresh .cpu .pc ≡ 0xffffffffbfc00000

@@ -13,7 +13,7 @@ use Rattle.flow.specs.declared.Act.the-variants.{Write, HiLo}
 unfoldable pub toHiLo : pair.HiLo → Act
 toHiLo x = HiLo (x .hi) (x .lo)
 
--- A product has its high half in HI (A5); a quotient is in LO, its remainder in HI (A6, A7, A8).
+-- A product has its high half in HI (A5); a quotient is in LO, its remainder in HI (A6, A7, W2).
 unfoldable pub multiply : MultiplyOp → ℕ → ℕ → Act
 multiply MULT rs rt = toHiLo (word.mult rs rt)
 multiply MULTU rs rt = toHiLo (word.multu rs rt)

@@ -1,10 +1,13 @@
 -- Quotients over the width: a signed quotient fits its width, but for the least number by -1; and what the code's division gives.
 use mathlib.Core.Path.{_≡_, refl, sym, ap, _∙_, subst}
 use Prim.Native.Nat.{ℕ, zero, suc, _-_, _/_, _%_, _^_, _≤_, _<_}
-use native.Mathlib.Nat.{div-le-self, lt-of-le-of-lt, lt-of-lt-of-le, div-one, div-lt-self}
+use native.Mathlib.Nat.{div-le-self, lt-of-le-of-lt, lt-of-lt-of-le, div-one, div-lt-self, mod-mod}
 use native.Mathlib.Numerals.{lt-of-le-of-ne}
 use native.Mathlib.Omega.{arith}
-use borrow.Author.Tests.{eq-eqb, ne-eqb}
+use mathlib.Core.Bool.{Bool, false}
+use native.Mathlib.Decide.{decLt}
+use borrow.Author.Tests.{eq-eqb, ne-eqb, le-leb, lt-leb}
+use lib.Dec.{leb}
 use lib.IntN.{ℤ, pos, negsuc, negℤ, natAbs}
 use lib.Pow.{pow-pos}
 use lib.Signed.{mag, mag-rem, quotZ, remZ}
@@ -13,8 +16,8 @@ use mir.Val.{bits, hbits, SFits, toZ, ofZ}
 use mir.ValLaws.{pow-bits, toZ-pos, toZ-ofZ, sfits-le}
 use Rattle.word.specs.declared.HiLo.{HiLo}
 use Rattle.word.specs.Extend.{low, unsigned, signed, register, extend}
-use Rattle.word.specs.Quotient.{towardZero, remainder, byZero, divided, quotient, quotientUnsigned}
-use Rattle.word.proofs.Registers.{holds, signed-fits, signed-back, register-fits}
+use Rattle.word.specs.Quotient.{towardZero, remainder, byZero, divided, quotient, quotientUnsigned, belowZero, leaves}
+use Rattle.word.proofs.Registers.{holds, signed-fits, signed-back, register-fits, toZ-high}
 use Rattle.word.proofs.CompareLaws.{seen-both}
 
 mag-neg : (r : ℕ) {a : ℕ} → r ≤ suc a → mag (negℤ (pos r)) ≤ a
@@ -89,15 +92,30 @@ module _ (w : Width) (a b : ℕ) (x y : ℤ) (ex : x ≡ signed w a) (ey : y ≡
       })
       ∙ sym (other-divisor w (signed w a) (signed w b) (not-zero w b nz))
 
--- a zero divisor, as the code answers it
-module _ (w : Width) (a b : ℕ) (e : low w b ≡ 0) where
-  pub by-zero : _≡_ {A = HiLo} (record { hi = 0; lo = 0 }) (quotient w a b)
-  unfolding quotient byZero
-  by-zero = sym (zero-divisor w (signed w a) (signed w b) (ap (λ (n : ℕ). natAbs (toZ w n)) e ∙ ap natAbs (toZ-pos w 0 (pow-pos (hbits w)))))
+-- the sign of the low bits is their top bit
+sign-of : (w : Width) (a : ℕ) → leb (2 ^ hbits w) (low w a) ≡ belowZero (signed w a)
+sign-of w a = go (decLt (low w a) (2 ^ hbits w))
+  where
+    go : Dec (low w a < 2 ^ hbits w) → leb (2 ^ hbits w) (low w a) ≡ belowZero (signed w a)
+    go (yes h) = lt-leb _ _ h ∙ ap belowZero (sym (toZ-pos w (low w a) h))
+    go (no h) = let g : 2 ^ hbits w ≤ low w a = omega arith in le-leb _ _ g ∙ ap belowZero (sym (toZ-high w (low w a) g))
 
-  pub by-zero-unsigned : _≡_ {A = HiLo} (record { hi = 0; lo = 0 }) (quotientUnsigned w a b)
-  unfolding quotientUnsigned byZero
-  by-zero-unsigned = sym (zero-divisor w (unsigned w a) (unsigned w b) e)
+-- a zero divisor: one fact at each width and however the registers are read, of a dividend d for HI and its sign n
+shared : (w : Width) (x y : ℤ) (d : ℕ) (n : Bool) → natAbs y ≡ 0 → d ≡ register w x → n ≡ belowZero x → leaves d n ≡ divided w x y
+unfolding byZero
+shared w x y d n e h s = (λ i. leaves (h i) (s i)) ∙ sym (zero-divisor w x y e)
+
+-- read as signed, and as unsigned
+module _ (w : Width) (a b d : ℕ) (e : low w b ≡ 0) (h : d ≡ extend w a) where
+  pub by-zero : leaves d (leb (2 ^ hbits w) (low w a)) ≡ quotient w a b
+  unfolding quotient extend
+  by-zero =
+      shared w (signed w a) (signed w b) d _ (ap (λ (n : ℕ). natAbs (toZ w n)) e ∙ ap natAbs (toZ-pos w 0 (pow-pos (hbits w))))
+      (h ∙ sym (register-fits w (signed w a) (signed-fits w a))) (sign-of w a)
+
+  pub by-zero-unsigned : leaves d false ≡ quotientUnsigned w a b
+  unfolding quotientUnsigned
+  by-zero-unsigned = shared w (unsigned w a) (unsigned w b) d false e (h ∙ holds w (unsigned w a) a (sym (mod-mod a (2 ^ bits w)))) refl
 
 -- the code's division of the low bits
 pub gives-unsigned : (w : Width) (a b r q : ℕ) → (low w b ≡ 0 → ⊥) → r ≡ extend w (low w a % low w b) → q ≡ extend w (low w a / low w b)

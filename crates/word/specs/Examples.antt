@@ -8,7 +8,7 @@ use Rattle.word.specs.Sum.{checked, checkedSum}
 use Rattle.word.specs.Shift.{right}
 use Rattle.word.specs.Product.{halves, product}
 use Rattle.word.specs.Quotient.{byZero, divided, quotient, quotientUnsigned}
-use Rattle.word.specs.Word.{add, dmult, div, divu, ddiv, srl}
+use Rattle.word.specs.Word.{add, dmult, div, divu, ddiv, ddivu, srl}
 
 -- a pair for HI and LO
 abbrev both : ℕ → ℕ → HiLo
@@ -34,14 +34,49 @@ pub most-negative : ddiv 0x8000_0000_0000_0000 0xffff_ffff_ffff_ffff ≡ both 0 
 unfolding quotient divided register
 most-negative = refl
 
--- a zero divisor, signed and unsigned (A8)
-pub by-zero : div 7 0 ≡ both 0 0
-unfolding quotient divided byZero
-by-zero = refl
+-- and the most negative word: a zero divisor (W2) does not touch it
+pub most-negative-word : div 0xffff_ffff_8000_0000 0xffff_ffff_ffff_ffff ≡ both 0 0xffff_ffff_8000_0000
+unfolding quotient divided register
+most-negative-word = refl
 
-pub by-zero-unsigned : divu 7 0x1_0000_0000 ≡ both 0 0
-unfolding quotientUnsigned divided byZero
-by-zero-unsigned = refl
+-- a zero divisor: the dividend in HI, and in LO all ones, or 1 if it is negative (W2)
+abbrev ones : ℕ
+ones = 0xffff_ffff_ffff_ffff
+
+-- DIV of 7, of -7 and of 0
+pub by-zero : (div 7 0 ≡ both 7 ones) × (div 0xffff_ffff_ffff_fff9 0 ≡ both 0xffff_ffff_ffff_fff9 1) × (div 0 0 ≡ both 0 ones)
+unfolding quotient divided byZero register
+by-zero = (refl, refl, refl)
+
+-- what stands above a word does not count: in the divisor, in a dividend below zero, in one of zero or more
+pub by-zero-word :
+    (div 0xffff_ffff_8000_0000 0x1_0000_0000 ≡ both 0xffff_ffff_8000_0000 1)
+    × (div 0x1_8000_0000 0 ≡ both 0xffff_ffff_8000_0000 1)
+    × (div 0xffff_ffff_0000_0005 0 ≡ both 5 ones)
+unfolding quotient divided byZero register
+by-zero-word = (refl, refl, refl)
+
+-- DIVU of 80000000, sign-extended or not, and of 7fffffff
+pub by-zero-unsigned :
+    (divu 0x8000_0000 0 ≡ both 0xffff_ffff_8000_0000 ones)
+    × (divu 0xffff_ffff_8000_0000 0 ≡ both 0xffff_ffff_8000_0000 ones)
+    × (divu 0x7fff_ffff 0 ≡ both 0x7fff_ffff ones)
+unfolding quotientUnsigned divided byZero register
+by-zero-unsigned = (refl, refl, refl)
+
+-- DDIV of the least, of 80000000 and of 0; by a divisor that is zero in its low word only, it divides
+pub by-zero-double :
+    (ddiv 0x8000_0000_0000_0000 0 ≡ both 0x8000_0000_0000_0000 1)
+    × (ddiv 0x8000_0000 0 ≡ both 0x8000_0000 ones)
+    × (ddiv 0 0 ≡ both 0 ones)
+    × (ddiv 5 0x1_0000_0000 ≡ both 5 0)
+unfolding quotient divided byZero register
+by-zero-double = (refl, refl, refl, refl)
+
+-- DDIVU of all ones and of 0
+pub by-zero-double-unsigned : (ddivu ones 0 ≡ both ones ones) × (ddivu 0 0 ≡ both 0 ones)
+unfolding quotientUnsigned divided byZero register
+by-zero-double-unsigned = (refl, refl)
 
 -- SRL of 80000000 by 31 (A4)
 pub shift-logical : srl 0x8000_0000 31 ≡ 1

@@ -1,5 +1,6 @@
 -- Quotients over the width: the quotient in LO, the remainder in HI. Signed and unsigned forms differ only in how the registers are read.
-use Prim.Native.Nat.{ℕ, suc, _/_, _%_}
+use Prim.Native.Nat.{ℕ, suc, _-_, _/_, _%_, _^_}
+use mathlib.Core.Bool.{Bool, true, false}
 use lib.IntN.{ℤ, pos, negsuc, negℤ, natAbs}
 use lib.Dec.{eqb}
 use mir.Syntax.{Width}
@@ -19,9 +20,18 @@ abbrev pub remainder : ℤ → ℤ → ℤ
 remainder (pos a) y = pos (a % natAbs y)
 remainder (negsuc a) y = negℤ (pos (suc a % natAbs y))
 
--- a zero divisor, of a dividend as it is read: LO = HI = 0 (A8, house)
+-- a number is below zero
+abbrev pub belowZero : ℤ → Bool
+belowZero (pos a) = false
+belowZero (negsuc a) = true
+
+-- what a zero divisor leaves: the dividend in HI; in LO all ones, or 1 where the dividend is negative (W2, in A8's place)
+abbrev pub leaves : ℕ → Bool → HiLo
+leaves dividend negative = record { hi = dividend; lo = pick negative 1 (2 ^ 64 - 1) }
+
+-- at each width, of a dividend as it is read: in HI it is sign-extended
 unfoldable pub byZero : Width → ℤ → HiLo
-byZero w dividend = record { hi = 0; lo = 0 }
+byZero w dividend = leaves (register w dividend) (belowZero dividend)
 
 -- the quotient in LO and the remainder in HI, each cut to the width (A6);
 -- so the most negative number by -1 gives itself and 0 (A7, house)

@@ -143,7 +143,7 @@ dmult a b = product w64 a b
 abbrev pub dmultu : ℕ → ℕ → HiLo
 dmultu a b = productUnsigned w64 a b
 
--- quotients (A6, A7, A8)
+-- quotients (A6, A7, W2)
 abbrev pub div : ℕ → ℕ → HiLo
 div a b = quotient w32 a b
 

@@ -3,12 +3,13 @@ use mathlib.Core.Path.{_≡_, sym, _∙_}
 use mathlib.Core.Logic.{⊎-elim}
 use Prim.Native.Nat.{_<_, _-_, _^_}
 use lib.IntN.{ℤ}
+use lib.Dec.{leb}
 use lib.Signed.{quotZ}
 use mir.Syntax.{w64}
 use mir.Val.{SFits, toZ, ofZ}
 use Rattle.word.specs.Extend.{low, signed, register}
-use Rattle.word.specs.Quotient.{divided}
-use Rattle.word.proofs.Registers.{low-whole}
+use Rattle.word.specs.Quotient.{divided, leaves}
+use Rattle.word.proofs.Registers.{low-whole, whole}
 use Rattle.word.proofs.QuotientLaws.{by-zero, of-patterns, asks, gives}
 use borrow.Author.Needs.{needs}
 use Rattle.word.proofs.quotients.ddiv.Statement.{statement}
@@ -29,8 +30,14 @@ module _ (c : tie.Joined2) where
       → (0 < ofZ w64 y) × SFits w64 (quotZ (toZ w64 (ofZ w64 x)) (toZ w64 (ofZ w64 y)))
   division x y ex ey = asks w64 (start .args .a) (start .args .b) x y ex ey other not-least
 
+by-zero-requires : tie.Need-by-zero-requires
+by-zero-requires c κs = search needs
+
 returns : tie.Need-returns
-returns c = by-zero w64 (c .before .args .a) (c .before .args .b) (low-whole (c .before .args .b) (c .before .fits .b) ∙ c .if1 .taken)
+returns c = let s = c .before .before in
+    c .by-zero .ensures
+    ∙ (λ i. leaves (s .args .a) (leb (2 ^ 63) (sym (low-whole (s .args .a) (s .fits .a)) i)))
+    ∙ by-zero w64 (s .args .a) (s .args .b) _ (low-whole (s .args .b) (s .fits .b) ∙ c .before .if1 .taken) (whole (s .args .a) (s .fits .a .fits))
 
 returns-2 : tie.Need-returns-2
 unfolding divided register
@@ -63,6 +70,7 @@ pub ddiv-spec : {M : Type 1} → statement M
 ddiv-spec =
     tie.close
     (tie.spec
+    by-zero-requires
     returns
     returns-2
     signed64-requires

@@ -11,8 +11,12 @@ use borrow.Author.Needs.{needs}
 use Rattle.word.proofs.quotients.ddivu.Statement.{statement}
 use Rattle.word.proofs.quotients.ddivu.Tie as tie
 
+by-zero-requires : tie.Need-by-zero-requires
+by-zero-requires c κs = search needs
+
 returns : tie.Need-returns
-returns c = by-zero-unsigned w64 (c .before .args .a) (c .before .args .b) (omega (arith, c .if1 .taken))
+returns c = let s = c .before .before in
+    c .by-zero .ensures ∙ by-zero-unsigned w64 (s .args .a) (s .args .b) _ (omega (arith, c .before .if1 .taken)) (whole (s .args .a) (s .fits .a .fits))
 
 rem-t4 : tie.Need-rem-t4
 rem-t4 c = search needs
@@ -29,4 +33,4 @@ returns-2 c = let s = c .before in
     (whole (a / b) (omega (arith, div-le-self a b)) ∙ (λ i. extend w64 (sym (low-whole a (s .fits .a)) i / sym (low-whole b (s .fits .b)) i)))
 
 pub ddivu-spec : {M : Type 1} → statement M
-ddivu-spec = tie.close (tie.spec returns rem-t4 div-t5 returns-2)
+ddivu-spec = tie.close (tie.spec by-zero-requires returns rem-t4 div-t5 returns-2)

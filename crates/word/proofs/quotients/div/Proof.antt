@@ -3,11 +3,12 @@ use mathlib.Core.Path.{_≡_, sym, _∙_}
 use mathlib.Core.Logic.{⊎-elim}
 use Prim.Native.Nat.{_<_, _-_, _^_}
 use lib.IntN.{ℤ}
+use lib.Dec.{leb}
 use lib.Signed.{quotZ}
 use mir.Syntax.{w32}
 use mir.Val.{SFits, toZ, ofZ}
 use Rattle.word.specs.Extend.{low, signed, register}
-use Rattle.word.specs.Quotient.{divided}
+use Rattle.word.specs.Quotient.{divided, leaves}
 use Rattle.word.proofs.QuotientLaws.{by-zero, of-patterns, asks, gives}
 use borrow.Author.Needs.{needs}
 use Rattle.word.proofs.quotients.div.Statement.{statement}
@@ -34,8 +35,17 @@ low-word-requires c κs = search needs
 low-word-requires-2 : tie.Need-low-word-requires-2
 low-word-requires-2 c κs = search needs
 
+extend-requires : tie.Need-extend-requires
+extend-requires c κs = search needs
+
+by-zero-requires : tie.Need-by-zero-requires
+by-zero-requires c κs = search needs
+
 returns : tie.Need-returns
-returns c = by-zero w32 (c .before .before .before .args .a) (c .before .before .before .args .b) (sym (c .before .low-word2 .ensures) ∙ c .if1 .taken)
+returns c = let t = c .before .before in let s = t .before .before .before in
+    c .by-zero .ensures
+    ∙ (λ i. leaves (c .before .extend .result) (leb (2 ^ 31) (t .before .before .low-word .ensures i)))
+    ∙ by-zero w32 (s .args .a) (s .args .b) _ (sym (t .before .low-word2 .ensures) ∙ t .if1 .taken) (c .before .extend .ensures)
 
 returns-2 : tie.Need-returns-2
 unfolding divided register
@@ -70,6 +80,8 @@ div-spec =
     (tie.spec
     low-word-requires
     low-word-requires-2
+    extend-requires
+    by-zero-requires
     returns
     returns-2
     signed32-requires

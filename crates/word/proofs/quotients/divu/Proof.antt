@@ -14,27 +14,35 @@ low-word-requires c κs = search needs
 low-word-requires-2 : tie.Need-low-word-requires-2
 low-word-requires-2 c κs = search needs
 
+extend-requires : tie.Need-extend-requires
+extend-requires c κs = search needs
+
+by-zero-requires : tie.Need-by-zero-requires
+by-zero-requires c κs = search needs
+
 returns : tie.Need-returns
-returns c = by-zero-unsigned w32 (c .before .before .before .args .a) (c .before .before .before .args .b) (sym (c .before .low-word2 .ensures) ∙ c .if1 .taken)
+returns c = let s = c .before .before in
+    c .by-zero .ensures
+    ∙ by-zero-unsigned w32 (s .before .before .before .args .a) (s .before .before .before .args .b) _ (sym (s .before .low-word2 .ensures) ∙ s .if1 .taken) (c .before .extend .ensures)
 
 rem-extend : tie.Need-rem-extend
 rem-extend c = search needs
 
-extend-requires : tie.Need-extend-requires
-extend-requires c κs = search needs
+extend-requires-2 : tie.Need-extend-requires-2
+extend-requires-2 c κs = search needs
 
 div-extend : tie.Need-div-extend
 div-extend c = search needs
 
-extend-requires-2 : tie.Need-extend-requires-2
-extend-requires-2 c κs = search needs
+extend-requires-3 : tie.Need-extend-requires-3
+extend-requires-3 c κs = search needs
 
 returns-2 : tie.Need-returns-2
 returns-2 c = let ex = c .before .before .before .before .low-word .ensures in
     let ey = c .before .before .before .low-word2 .ensures in
     gives-unsigned w32 _ _ _ _ (λ e. c .before .before .if1 .left (ey ∙ e))
-    (c .before .extend .ensures ∙ (λ i. extend w32 (ex i % ey i)))
-    (c .extend2 .ensures ∙ (λ i. extend w32 (ex i / ey i)))
+    (c .before .extend2 .ensures ∙ (λ i. extend w32 (ex i % ey i)))
+    (c .extend3 .ensures ∙ (λ i. extend w32 (ex i / ey i)))
 
 pub divu-spec : {M : Type 1} → statement M
 divu-spec =
@@ -42,9 +50,11 @@ divu-spec =
     (tie.spec
     low-word-requires
     low-word-requires-2
+    extend-requires
+    by-zero-requires
     returns
     rem-extend
-    extend-requires
-    div-extend
     extend-requires-2
+    div-extend
+    extend-requires-3
     returns-2)

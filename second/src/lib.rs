@@ -29,3 +29,5 @@ pub mod word;
 mod bench;
 #[cfg(test)]
 mod destination;
+#[cfg(test)]
+mod divisions;

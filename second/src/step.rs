@@ -4,7 +4,7 @@ use crate::address::{translate, Use, VAddr};
 use crate::decode::decode;
 use crate::exception::{take, Exception, Stop, Trouble};
 use crate::execute::{check, execute, Flow};
-use crate::instruction::Code;
+use crate::instruction::{Code, Instruction};
 use crate::machine::Machine;
 use crate::memory::Memory;
 
@@ -16,14 +16,20 @@ fn fetch(machine: &Machine, memory: &Memory) -> Result<Code, Trouble> {
     Ok(Code(word as u32))
 }
 
-/// Does the interrupt or the instruction that is due, up to where it leads.
-fn attempt(machine: &mut Machine, memory: &mut Memory, lines: u32) -> Result<Flow, Trouble> {
+/// Gives the instruction that is due and has passed its checks, unless something comes before it.
+pub fn due(machine: &Machine, memory: &Memory, lines: u32) -> Result<(Code, Instruction), Trouble> {
     if machine.cp0.interrupt_is_due(lines) {
         return Err(Trouble::Exception(Exception::Interrupt));
     }
     let code = fetch(machine, memory)?;
     let instruction = decode(code);
     check(machine, code, instruction)?;
+    Ok((code, instruction))
+}
+
+/// Does the interrupt or the instruction that is due, up to where it leads.
+fn attempt(machine: &mut Machine, memory: &mut Memory, lines: u32) -> Result<Flow, Trouble> {
+    let (code, instruction) = due(machine, memory, lines)?;
     execute(machine, memory, lines, code, instruction)
 }
 

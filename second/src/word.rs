@@ -104,14 +104,16 @@ pub fn multiply_unsigned_double(a: u64, b: u64) -> HiLo {
     HiLo { hi: (product >> 64) as u64, lo: product as u64 }
 }
 
-/// The result of any division by zero.
-const BY_ZERO: HiLo = HiLo { hi: 0, lo: 0 };
+/// Gives HI and LO of a zero divisor, from the dividend as it goes to HI and its being negative.
+fn by_zero(dividend: u64, negative: bool) -> HiLo {
+    HiLo { hi: dividend, lo: if negative { 1 } else { u64::MAX } }
+}
 
 /// Divides two signed words, quotient to LO and remainder to HI.
 pub fn divide_word(a: u64, b: u64) -> HiLo {
     let (dividend, divisor) = (a as i32, b as i32);
     if divisor == 0 {
-        return BY_ZERO;
+        return by_zero(dividend as i64 as u64, dividend < 0);
     }
     HiLo {
         hi: dividend.wrapping_rem(divisor) as i64 as u64,
@@ -123,7 +125,7 @@ pub fn divide_word(a: u64, b: u64) -> HiLo {
 pub fn divide_unsigned_word(a: u64, b: u64) -> HiLo {
     let (dividend, divisor) = (a as u32, b as u32);
     if divisor == 0 {
-        return BY_ZERO;
+        return by_zero(extend(dividend), false);
     }
     HiLo { hi: extend(dividend % divisor), lo: extend(dividend / divisor) }
 }
@@ -132,7 +134,7 @@ pub fn divide_unsigned_word(a: u64, b: u64) -> HiLo {
 pub fn divide_double(a: u64, b: u64) -> HiLo {
     let (dividend, divisor) = (a as i64, b as i64);
     if divisor == 0 {
-        return BY_ZERO;
+        return by_zero(a, dividend < 0);
     }
     HiLo { hi: dividend.wrapping_rem(divisor) as u64, lo: dividend.wrapping_div(divisor) as u64 }
 }
@@ -140,7 +142,7 @@ pub fn divide_double(a: u64, b: u64) -> HiLo {
 /// Divides two unsigned doublewords, quotient to LO and remainder to HI.
 pub fn divide_unsigned_double(a: u64, b: u64) -> HiLo {
     if b == 0 {
-        return BY_ZERO;
+        return by_zero(a, false);
     }
     HiLo { hi: a % b, lo: a / b }
 }
@@ -203,10 +205,50 @@ mod tests {
     }
 
     #[test]
-    fn a_zero_divisor_gives_zeros() {
-        assert_eq!(divide_word(5, 0x1_0000_0000), BY_ZERO);
-        assert_eq!(divide_unsigned_word(5, 0), BY_ZERO);
-        assert_eq!(divide_double(5, 0), BY_ZERO);
-        assert_eq!(divide_unsigned_double(5, 0), BY_ZERO);
+    fn a_zero_divisor_leaves_the_dividend_of_words() {
+        // The dividend, HI, and LO of the signed form; the last five have another high word.
+        let cases = [
+            (0, 0, MINUS),
+            (1, 1, MINUS),
+            (0x7fff_ffff, 0x7fff_ffff, MINUS),
+            (MINUS, MINUS, 1),
+            (MINUS - 6, MINUS - 6, 1),
+            (0xffff_ffff_8000_0000, 0xffff_ffff_8000_0000, 1),
+            (0x8000_0000, 0xffff_ffff_8000_0000, 1),
+            (0x7fff_ffff_ffff_fff9, MINUS - 6, 1),
+            (0xffff_ffff_0000_0007, 7, MINUS),
+            (1 << 63, 0, MINUS),
+            (1 << 32, 0, MINUS),
+        ];
+        for (dividend, hi, lo) in cases {
+            for divisor in [0, 1 << 32, 1 << 63, 0xffff_ffff_0000_0000] {
+                assert_eq!(divide_word(dividend, divisor), HiLo { hi, lo });
+                assert_eq!(divide_unsigned_word(dividend, divisor), HiLo { hi, lo: MINUS });
+            }
+        }
+    }
+
+    #[test]
+    fn a_zero_divisor_leaves_the_dividend_of_doublewords() {
+        let lowest = 1 << 63;
+        for dividend in [0, 1, 7, 0x8000_0000, 0xffff_ffff, lowest - 1] {
+            let left = HiLo { hi: dividend, lo: MINUS };
+            assert_eq!(divide_double(dividend, 0), left);
+            assert_eq!(divide_unsigned_double(dividend, 0), left);
+        }
+        for dividend in [MINUS, MINUS - 6, 0xffff_ffff_0000_0000, lowest + 7, lowest] {
+            assert_eq!(divide_double(dividend, 0), HiLo { hi: dividend, lo: 1 });
+            assert_eq!(divide_unsigned_double(dividend, 0), HiLo { hi: dividend, lo: MINUS });
+        }
+    }
+
+    #[test]
+    fn a_zero_low_word_is_no_zero_divisor_of_doublewords() {
+        assert_eq!(divide_double(MINUS - 6, 1 << 32), HiLo { hi: MINUS - 6, lo: 0 });
+        assert_eq!(divide_double(1 << 63, MINUS << 32), HiLo { hi: 0, lo: 1 << 31 });
+        assert_eq!(
+            divide_unsigned_double(MINUS, 1 << 32),
+            HiLo { hi: MINUS >> 32, lo: MINUS >> 32 }
+        );
     }
 }

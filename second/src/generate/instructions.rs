@@ -13,6 +13,8 @@ pub const EXTREMES: [u32; 2] = [14, 15];
 pub const STATUS_REGISTER: u32 = 26;
 /// A register that holds a legal page mask.
 pub const MASK_REGISTER: u32 = 27;
+/// A register whose low word is zero until a handler uses it.
+pub const ZERO_REGISTER: u32 = 28;
 
 const REGISTER_FUNCTIONS: [u32; 14] =
     [0x20, 0x21, 0x22, 0x23, 0x24, 0x25, 0x26, 0x27, 0x2a, 0x2b, 0x2c, 0x2d, 0x2e, 0x2f];
@@ -20,6 +22,7 @@ const SHIFT_FUNCTIONS: [u32; 15] =
     [0x00, 0x02, 0x03, 0x04, 0x06, 0x07, 0x14, 0x16, 0x17, 0x38, 0x3a, 0x3b, 0x3c, 0x3e, 0x3f];
 const HI_LO_FUNCTIONS: [u32; 12] =
     [0x10, 0x11, 0x12, 0x13, 0x18, 0x19, 0x1a, 0x1b, 0x1c, 0x1d, 0x1e, 0x1f];
+const DIVISION_FUNCTIONS: [u32; 4] = [0x1a, 0x1b, 0x1e, 0x1f];
 const IMMEDIATE_OPCODES: [u32; 10] = [0x08, 0x09, 0x0a, 0x0b, 0x0c, 0x0d, 0x0e, 0x0f, 0x18, 0x19];
 const TRAP_FUNCTIONS: [u32; 6] = [0x30, 0x31, 0x32, 0x33, 0x34, 0x36];
 const TRAP_CODES: [u32; 6] = [0x08, 0x09, 0x0a, 0x0b, 0x0c, 0x0e];
@@ -127,6 +130,19 @@ fn linked(random: &mut Random) -> Vec<u32> {
     words
 }
 
+/// Gives two divisions by zero or a zero low word, HI or LO of each copied.
+fn dividing_by_zero(random: &mut Random) -> Vec<u32> {
+    let zeros = [0, 0, ZERO_REGISTER];
+    let mut words = Vec::new();
+    for _ in 0..2 {
+        let dividend = if random.one_in(3) { random.pick(&zeros) } else { register(random) };
+        let divisor = random.pick(&zeros);
+        words.push(special(random.pick(&DIVISION_FUNCTIONS), dividend, divisor, 0, 0));
+        words.push(special(random.pick(&[0x10, 0x12]), 0, 0, destination(random), 0));
+    }
+    words
+}
+
 /// Gives a branch or jump whose target is mostly near.
 fn leaving(random: &mut Random, code_index: u32) -> u32 {
     let distance = match random.below(16) {
@@ -210,6 +226,7 @@ pub fn some(random: &mut Random, code_index: u32) -> Vec<u32> {
         }
         4 => linked(random),
         5 if random.one_in(4) => vec![ERET],
+        6 => dividing_by_zero(random),
         _ => vec![plain(random)],
     }
 }

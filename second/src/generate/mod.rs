@@ -34,6 +34,7 @@ mod tests {
     use crate::assemble::NOP;
     use crate::decode::decode;
     use crate::destination::{destination, words_of};
+    use crate::divisions::{all_by_zero, by_zero};
     use crate::instruction::{Code, Instruction};
     use crate::many::{join, split};
     use std::collections::{BTreeMap, BTreeSet};
@@ -87,6 +88,17 @@ mod tests {
         }
         assert!(images > 400 / 3, "{images}");
         assert!(kinds.len() == 3 && kinds.values().all(|count| *count > 400 / 16), "{kinds:?}");
+    }
+
+    #[test]
+    fn every_division_by_zero_occurs_often() {
+        let mut counts: BTreeMap<_, _> = all_by_zero().into_iter().map(|kind| (kind, 0)).collect();
+        for image in series(6, 4000) {
+            for kind in by_zero(&image) {
+                *counts.entry(kind).or_insert(0) += 1;
+            }
+        }
+        assert!(counts.values().all(|count| *count > 4000 / 100), "{counts:?}");
     }
 
     #[test]

@@ -1,7 +1,7 @@
 //! Random machines with a program to run.
 
 use super::instructions::{
-    program, CODE_POINTERS, EXTREMES, MASK_REGISTER, POINTERS, STATUS_REGISTER,
+    program, CODE_POINTERS, EXTREMES, MASK_REGISTER, POINTERS, STATUS_REGISTER, ZERO_REGISTER,
 };
 use super::random::Random;
 use super::values;
@@ -223,6 +223,7 @@ pub fn draft(random: &mut Random) -> Draft {
         .reg(EXTREMES[1], random.pick(&[0xffff_ffff_8000_0000, 1 << 63]))
         .reg(STATUS_REGISTER, values::status(random))
         .reg(MASK_REGISTER, values::mask(random) as u64)
+        .reg(ZERO_REGISTER, random.pick(&[0, 1 << 32, 1 << 63, 0xffff_ffff_0000_0000]))
         .reg(29, (random.below(16) << 6 | 6 | random.below(2)) as u64)
         .reg(30, (random.below(16) << 6 | 6 | random.below(2)) as u64)
         .reg(0x20, values::operand(random))

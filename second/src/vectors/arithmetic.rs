@@ -95,7 +95,7 @@ const SHIFTS: [(&str, u32); 9] = [
 ];
 
 /// Products and quotients by name and function.
-const MULDIV: [(&str, u32); 8] = [
+pub const MULDIV: [(&str, u32); 8] = [
     ("mult", 0x18),
     ("multu", 0x19),
     ("div", 0x1a),

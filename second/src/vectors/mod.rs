@@ -2,6 +2,7 @@
 
 mod arithmetic;
 mod branches;
+mod by_zero;
 mod common;
 mod cp0;
 mod decoding;
@@ -25,6 +26,7 @@ pub use roms::files as rom_files;
 pub fn all() -> Vec<Image> {
     let mut images = Vec::new();
     images.extend(arithmetic::images());
+    images.extend(by_zero::images());
     images.extend(branches::images());
     images.extend(loads::images());
     images.extend(linked::images());

@@ -56,13 +56,14 @@ pub by-zero-word :
 unfolding quotient divided byZero register
 by-zero-word = (refl, refl, refl)
 
--- DIVU of 80000000, sign-extended or not, and of 7fffffff
+-- DIVU of 80000000, sign-extended or not, of 7fffffff and of 0
 pub by-zero-unsigned :
     (divu 0x8000_0000 0 ≡ both 0xffff_ffff_8000_0000 ones)
     × (divu 0xffff_ffff_8000_0000 0 ≡ both 0xffff_ffff_8000_0000 ones)
     × (divu 0x7fff_ffff 0 ≡ both 0x7fff_ffff ones)
+    × (divu 0 0 ≡ both 0 ones)
 unfolding quotientUnsigned divided byZero register
-by-zero-unsigned = (refl, refl, refl)
+by-zero-unsigned = (refl, refl, refl, refl)
 
 -- DDIV of the least, of 80000000 and of 0; by a divisor that is zero in its low word only, it divides
 pub by-zero-double :

@@ -105,17 +105,18 @@ shared : (w : Width) (x y : ℤ) (d : ℕ) (n : Bool) → natAbs y ≡ 0 → d �
 unfolding byZero
 shared w x y d n e h s = (λ i. leaves (h i) (s i)) ∙ sym (zero-divisor w x y e)
 
--- read as signed, and as unsigned
-module _ (w : Width) (a b d : ℕ) (e : low w b ≡ 0) (h : d ≡ extend w a) where
-  pub by-zero : leaves d (leb (2 ^ hbits w) (low w a)) ≡ quotient w a b
+-- what the code answers, r, has the dividend sign-extended and its sign: read as signed the top bit, as unsigned none
+module _ (w : Width) (a b : ℕ) (r : HiLo) (d : ℕ) (n : Bool) (g : r ≡ leaves d n) (e : low w b ≡ 0) (h : d ≡ extend w a) where
+  pub by-zero : n ≡ leb (2 ^ hbits w) (low w a) → r ≡ quotient w a b
   unfolding quotient extend
-  by-zero =
-      shared w (signed w a) (signed w b) d _ (ap (λ (n : ℕ). natAbs (toZ w n)) e ∙ ap natAbs (toZ-pos w 0 (pow-pos (hbits w))))
-      (h ∙ sym (register-fits w (signed w a) (signed-fits w a))) (sign-of w a)
+  by-zero s =
+      g
+      ∙ shared w (signed w a) (signed w b) d n (ap (λ (m : ℕ). natAbs (toZ w m)) e ∙ ap natAbs (toZ-pos w 0 (pow-pos (hbits w))))
+      (h ∙ sym (register-fits w (signed w a) (signed-fits w a))) (s ∙ sign-of w a)
 
-  pub by-zero-unsigned : leaves d false ≡ quotientUnsigned w a b
+  pub by-zero-unsigned : n ≡ false → r ≡ quotientUnsigned w a b
   unfolding quotientUnsigned
-  by-zero-unsigned = shared w (unsigned w a) (unsigned w b) d false e (h ∙ holds w (unsigned w a) a (sym (mod-mod a (2 ^ bits w)))) refl
+  by-zero-unsigned s = g ∙ shared w (unsigned w a) (unsigned w b) d n e (h ∙ holds w (unsigned w a) a (sym (mod-mod a (2 ^ bits w)))) s
 
 -- the code's division of the low bits
 pub gives-unsigned : (w : Width) (a b r q : ℕ) → (low w b ≡ 0 → ⊥) → r ≡ extend w (low w a % low w b) → q ≡ extend w (low w a / low w b)

@@ -34,16 +34,16 @@ pub most-negative : ddiv 0x8000_0000_0000_0000 0xffff_ffff_ffff_ffff ≡ both 0 
 unfolding quotient divided register
 most-negative = refl
 
--- and the most negative word: a zero divisor (W2) does not touch it
+-- and so does the most negative word
 pub most-negative-word : div 0xffff_ffff_8000_0000 0xffff_ffff_ffff_ffff ≡ both 0 0xffff_ffff_8000_0000
 unfolding quotient divided register
 most-negative-word = refl
 
--- a zero divisor: the dividend in HI, and in LO all ones, or 1 if it is negative (W2)
+-- all ones
 abbrev ones : ℕ
 ones = 0xffff_ffff_ffff_ffff
 
--- DIV of 7, of -7 and of 0
+-- a zero divisor: the dividend in HI, and in LO all ones, or 1 if it is negative (W2); DIV of 7, of -7 and of 0
 pub by-zero : (div 7 0 ≡ both 7 ones) × (div 0xffff_ffff_ffff_fff9 0 ≡ both 0xffff_ffff_ffff_fff9 1) × (div 0 0 ≡ both 0 ones)
 unfolding quotient divided byZero register
 by-zero = (refl, refl, refl)

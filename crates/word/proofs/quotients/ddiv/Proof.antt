@@ -1,5 +1,5 @@
 -- The signed type divides as the rule says, where the quotient fits; the least number by -1 is computed.
-use mathlib.Core.Path.{_≡_, sym, _∙_}
+use mathlib.Core.Path.{_≡_, sym, ap, _∙_}
 use mathlib.Core.Logic.{⊎-elim}
 use Prim.Native.Nat.{_<_, _-_, _^_}
 use lib.IntN.{ℤ}
@@ -8,7 +8,7 @@ use lib.Signed.{quotZ}
 use mir.Syntax.{w64}
 use mir.Val.{SFits, toZ, ofZ}
 use Rattle.word.specs.Extend.{low, signed, register}
-use Rattle.word.specs.Quotient.{divided, leaves}
+use Rattle.word.specs.Quotient.{divided}
 use Rattle.word.proofs.Registers.{low-whole, whole}
 use Rattle.word.proofs.QuotientLaws.{by-zero, of-patterns, asks, gives}
 use borrow.Author.Needs.{needs}
@@ -35,9 +35,8 @@ by-zero-requires c κs = search needs
 
 returns : tie.Need-returns
 returns c = let s = c .before .before in
-    c .by-zero .ensures
-    ∙ (λ i. leaves (s .args .a) (leb (2 ^ 63) (sym (low-whole (s .args .a) (s .fits .a)) i)))
-    ∙ by-zero w64 (s .args .a) (s .args .b) _ (low-whole (s .args .b) (s .fits .b) ∙ c .before .if1 .taken) (whole (s .args .a) (s .fits .a .fits))
+    by-zero w64 (s .args .a) (s .args .b) _ _ _ (c .by-zero .ensures) (low-whole (s .args .b) (s .fits .b) ∙ c .before .if1 .taken)
+    (whole (s .args .a) (s .fits .a .fits)) (ap (leb (2 ^ 63)) (sym (low-whole (s .args .a) (s .fits .a))))
 
 returns-2 : tie.Need-returns-2
 unfolding divided register

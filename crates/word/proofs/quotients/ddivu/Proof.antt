@@ -1,5 +1,5 @@
 -- The division of whole registers is that of their low bits.
-use mathlib.Core.Path.{sym, _∙_}
+use mathlib.Core.Path.{refl, sym, _∙_}
 use Prim.Native.Nat.{_/_, _%_}
 use native.Mathlib.Omega.{arith}
 use native.Mathlib.Nat.{div-le-self, mod-le}
@@ -16,7 +16,7 @@ by-zero-requires c κs = search needs
 
 returns : tie.Need-returns
 returns c = let s = c .before .before in
-    c .by-zero .ensures ∙ by-zero-unsigned w64 (s .args .a) (s .args .b) _ (omega (arith, c .before .if1 .taken)) (whole (s .args .a) (s .fits .a .fits))
+    by-zero-unsigned w64 (s .args .a) (s .args .b) _ _ _ (c .by-zero .ensures) (omega (arith, c .before .if1 .taken)) (whole (s .args .a) (s .fits .a .fits)) refl
 
 rem-t4 : tie.Need-rem-t4
 rem-t4 c = search needs

@@ -1,5 +1,5 @@
 -- The signed type divides as the rule says, where the quotient fits; the least number by -1 is computed.
-use mathlib.Core.Path.{_≡_, sym, _∙_}
+use mathlib.Core.Path.{_≡_, sym, ap, _∙_}
 use mathlib.Core.Logic.{⊎-elim}
 use Prim.Native.Nat.{_<_, _-_, _^_}
 use lib.IntN.{ℤ}
@@ -8,7 +8,7 @@ use lib.Signed.{quotZ}
 use mir.Syntax.{w32}
 use mir.Val.{SFits, toZ, ofZ}
 use Rattle.word.specs.Extend.{low, signed, register}
-use Rattle.word.specs.Quotient.{divided, leaves}
+use Rattle.word.specs.Quotient.{divided}
 use Rattle.word.proofs.QuotientLaws.{by-zero, of-patterns, asks, gives}
 use borrow.Author.Needs.{needs}
 use Rattle.word.proofs.quotients.div.Statement.{statement}
@@ -43,9 +43,8 @@ by-zero-requires c κs = search needs
 
 returns : tie.Need-returns
 returns c = let t = c .before .before in let s = t .before .before .before in
-    c .by-zero .ensures
-    ∙ (λ i. leaves (c .before .extend .result) (leb (2 ^ 31) (t .before .before .low-word .ensures i)))
-    ∙ by-zero w32 (s .args .a) (s .args .b) _ (sym (t .before .low-word2 .ensures) ∙ t .if1 .taken) (c .before .extend .ensures)
+    by-zero w32 (s .args .a) (s .args .b) _ _ _ (c .by-zero .ensures) (sym (t .before .low-word2 .ensures) ∙ t .if1 .taken)
+    (c .before .extend .ensures) (ap (leb (2 ^ 31)) (t .before .before .low-word .ensures))
 
 returns-2 : tie.Need-returns-2
 unfolding divided register

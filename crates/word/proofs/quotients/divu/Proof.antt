@@ -1,5 +1,5 @@
 -- The low words are divided, and the results extended.
-use mathlib.Core.Path.{sym, _∙_}
+use mathlib.Core.Path.{refl, sym, _∙_}
 use Prim.Native.Nat.{_/_, _%_}
 use mir.Syntax.{w32}
 use Rattle.word.specs.Extend.{extend}
@@ -21,9 +21,9 @@ by-zero-requires : tie.Need-by-zero-requires
 by-zero-requires c κs = search needs
 
 returns : tie.Need-returns
-returns c = let s = c .before .before in
-    c .by-zero .ensures
-    ∙ by-zero-unsigned w32 (s .before .before .before .args .a) (s .before .before .before .args .b) _ (sym (s .before .low-word2 .ensures) ∙ s .if1 .taken) (c .before .extend .ensures)
+returns c = let t = c .before .before in let s = t .before .before .before in
+    by-zero-unsigned w32 (s .args .a) (s .args .b) _ _ _ (c .by-zero .ensures) (sym (t .before .low-word2 .ensures) ∙ t .if1 .taken)
+    (c .before .extend .ensures) refl
 
 rem-extend : tie.Need-rem-extend
 rem-extend c = search needs

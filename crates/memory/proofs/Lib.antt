@@ -2,6 +2,7 @@
 pub mod Examples
 pub mod Tables
 pub mod Runs
+pub mod Merges
 pub mod Spans
 pub mod Right
 pub mod Once

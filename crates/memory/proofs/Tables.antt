@@ -85,6 +85,38 @@ pub ldr-table :
 unfolding ldr withBytes span extend
 ldr-table = refl
 
+-- words below zero: LWL extends every sign, LWR that of a whole word alone
+abbrev signed : (ℕ → PAddr → ℕ → ℕ) → List ℕ
+signed load = each (λ (p : PAddr). load 0xf1f2f3f4f5f6f7f8 p register)
+
+pub lwl-signs :
+    signed lwl
+    ≡ 0xfffffffff1f2f3f4
+    ∷ 0xfffffffff2f3f448
+    ∷ 0xfffffffff3f44748
+    ∷ 0xfffffffff4464748
+    ∷ 0xfffffffff5f6f7f8
+    ∷ 0xfffffffff6f7f848
+    ∷ 0xfffffffff7f84748
+    ∷ 0xfffffffff8464748
+    ∷ []
+unfolding lwl withBytes span extend
+lwl-signs = refl
+
+pub lwr-signs :
+    signed lwr
+    ≡ 0x41424344454647f1
+    ∷ 0x414243444546f1f2
+    ∷ 0x4142434445f1f2f3
+    ∷ 0xfffffffff1f2f3f4
+    ∷ 0x41424344454647f5
+    ∷ 0x414243444546f5f6
+    ∷ 0x4142434445f5f6f7
+    ∷ 0xfffffffff5f6f7f8
+    ∷ []
+unfolding lwr withBytes span extend
+lwr-signs = refl
+
 pub swl-table :
     stores swl
     ≡ 0x454647484d4e4f50

@@ -1,13 +1,12 @@
--- Laws of bytes: a number is its bytes, and a merge has at each place the byte of the one number or of the other.
+-- Laws of bytes: what a shift and a cut leave of them, and that a merge has at each place the byte of the one number or of the other.
 use Prim.Native.Nat.{ℕ, zero, suc, _+_, _-_, _*_, _/_, _%_, _^_, _≤_, _<_}
-use native.Mathlib.Nat.{mod-one, mod-lt, div-one, div-eq-of-lt, add-mul, mul-assoc}
+use native.Mathlib.Nat.{mod-one, mod-lt, add-mul, mul-assoc}
 use native.Mathlib.Omega.{arith}
-use mathlib.Core.Path.{_≡_, refl, sym, _∙_, ap, subst}
-use mathlib.Core.List.{List, [], _∷_}
+use mathlib.Core.Path.{_≡_, sym, _∙_, ap, subst}
 use lib.Arith.{digits-lt}
 use lib.Pow as Pow
-use lib.Pow.{pow-add, pow-pos, shr-shr, shr-lt, mod-pow-add, mod-mod-pow, high, split}
-use Rattle.memory.specs.Bytes.{byte, eightSum, withBytes}
+use lib.Pow.{pow-add, pow-pos, shr-shr, shr-lt, mod-pow-add, mod-mod-pow, high}
+use Rattle.memory.specs.Bytes.{byte, withBytes}
 
 pub byte-lt : (x k : ℕ) → byte x k < 256
 unfolding byte
@@ -37,35 +36,7 @@ same-bytes (suc s) x y h =
     let e : 8 * suc s ≡ 8 + 8 * s = omega arith in
     rw (e, mod-pow-add x 8 (8 * s), mod-pow-add y 8 (8 * s), h s (omega arith), same-bytes s x y (λ i l. h i (omega arith)))
 
--- the bytes from k on are those from k + 1 on, and byte k
-byte-split : (x k : ℕ) → x / 2 ^ (8 * k + 8) * 256 + byte x k ≡ x / 2 ^ (8 * k)
-unfolding byte
-byte-split x k = ap (λ (n : ℕ). n * 256 + x / 2 ^ (8 * k) % 2 ^ 8) (sym (shr-shr x (8 * k) 8)) ∙ split (x / 2 ^ (8 * k)) 8
-
--- eight digits, each split off from what is left
-digits :
-    (a₀ a₁ a₂ a₃ a₄ a₅ a₆ a₇ b₀ b₁ b₂ b₃ b₄ b₅ b₆ b₇ : ℕ)
-    → a₁ * 256 + b₀ ≡ a₀
-    → a₂ * 256 + b₁ ≡ a₁
-    → a₃ * 256 + b₂ ≡ a₂
-    → a₄ * 256 + b₃ ≡ a₃
-    → a₅ * 256 + b₄ ≡ a₄
-    → a₆ * 256 + b₅ ≡ a₅
-    → a₇ * 256 + b₆ ≡ a₆
-    → 0 * 256 + b₇ ≡ a₇
-    → eightSum (b₇ ∷ b₆ ∷ b₅ ∷ b₄ ∷ b₃ ∷ b₂ ∷ b₁ ∷ b₀ ∷ []) ≡ a₀
-digits a₀ a₁ a₂ a₃ a₄ a₅ a₆ a₇ b₀ b₁ b₂ b₃ b₄ b₅ b₆ b₇ e₀ e₁ e₂ e₃ e₄ e₅ e₆ e₇ = omega arith
-
--- the eight bytes of a number of 64 bits are that number
-pub eight-bytes :
-    (w : ℕ)
-    → w < 2 ^ 64
-    → eightSum (byte w 7 ∷ byte w 6 ∷ byte w 5 ∷ byte w 4 ∷ byte w 3 ∷ byte w 2 ∷ byte w 1 ∷ byte w 0 ∷ []) ≡ w
-eight-bytes w h =
-    digits w _ _ _ _ _ _ _ _ _ _ _ _ _ _ _ (byte-split w 0 ∙ div-one w) (byte-split w 1) (byte-split w 2) (byte-split w 3)
-    (byte-split w 4) (byte-split w 5) (byte-split w 6)
-    (ap (λ (n : ℕ). n * 256 + byte w 7) (sym (div-eq-of-lt h)) ∙ byte-split w 7)
-
+-- a merge, said byte by byte (with-below, with-in, with-above: no proof needs them, they tell a reader what `withBytes` is)
 module _ (x low count y : ℕ) where
   top : ℕ
   top = x / 2 ^ (8 * (low + count))

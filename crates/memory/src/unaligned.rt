@@ -1,43 +1,39 @@
-// Unaligned loads: the merge, in the byte lanes that the manual draws.
+// Unaligned loads: the merge, by shifting and keeping parts of the two numbers.
 use crate::PAddr;
-use crate::byte;
-use crate::eight_of;
 use crate::lwu;
 ghost use mathlib.Core.Path.{_≡_};
-ghost use Prim.Native.Nat.{ℕ, _+_, _<_, _≤_};
+ghost use Prim.Native.Nat.{ℕ, _+_, _*_, _/_, _%_, _^_, _≤_};
 ghost use Rattle.memory.specs.Bytes as B;
 ghost use Rattle.memory.specs.Unaligned as U;
 
-// Byte k of `old` with `count` bytes, above the `low` lowest, replaced by those of `new`.
-fn lane(old: u64, low: u64, count: u64, new: u64, k: u64) -> u8
-    requires { ⌜ (low + count ≤ 8) × (k < 8) ⌝ }
-    ensures { λ r. ⌜ r ≡ B.byte (B.withBytes old low count new) k ⌝ }
+// The low `n` bytes of a number: the others are shifted out. In two halves, since a shift by 64 is none.
+fn kept_low(x: u64, n: u64) -> u64
+    requires { ⌜ n ≤ 8 ⌝ }
+    ensures { λ r. ⌜ r ≡ x % 2 ^ (8 * n) ⌝ }
 {
-    if k < low {
-        return byte(old, k);
-    }
-    if low + count <= k {
-        return byte(old, k);
-    }
-    byte(new, k - low)
+    let half = 4 * (8 - n);
+    x << half << half >> half >> half
 }
 
-// The eight bytes after a merge.
+// A number with its `n` lowest bytes made zero.
+fn kept_high(x: u64, n: u64) -> u64
+    requires { ⌜ n ≤ 8 ⌝ }
+    ensures { λ r. ⌜ r ≡ x / 2 ^ (8 * n) * 2 ^ (8 * n) ⌝ }
+{
+    let half = 4 * n;
+    x >> half >> half << half << half
+}
+
+// The merge: the bytes of `old` above the replaced ones, the low `count` bytes of `new` in their place, the `low` lowest of `old`.
 fn merge(old: u64, low: u64, count: u64, new: u64) -> u64
     requires { ⌜ low + count ≤ 8 ⌝ }
     ensures { λ r. ⌜ r ≡ B.withBytes old low count new ⌝ }
 {
-    let lanes = [
-        lane(old, low, count, new, 7),
-        lane(old, low, count, new, 6),
-        lane(old, low, count, new, 5),
-        lane(old, low, count, new, 4),
-        lane(old, low, count, new, 3),
-        lane(old, low, count, new, 2),
-        lane(old, low, count, new, 1),
-        lane(old, low, count, new, 0),
-    ];
-    eight_of(&lanes)
+    let above = kept_high(old, low + count);
+    let half = 4 * low;
+    let between = kept_low(new, count) << half << half;
+    let below = kept_low(old, low);
+    above + between + below
 }
 
 // LDL: the bytes from the address to the end of the aligned doubleword, on top of the register.

@@ -1,69 +1,52 @@
--- The eight lanes are the bytes of the merged number, and a number of 64 bits is its eight bytes.
-use mathlib.Core.Path.{_∙_}
-use Rattle.memory.specs.BytesLaws.{eight-bytes, with-lt}
+-- The three parts are those of the merged number, and so their sum fits.
+use native.Mathlib.Omega.{arith}
+use Rattle.memory.proofs.Merges.{merged, merged-fits}
 use borrow.Author.Needs.{needs}
 use Rattle.memory.proofs.unaligned.merge.Statement.{statement}
 use Rattle.memory.proofs.unaligned.merge.Tie as tie
 
-lane-requires : tie.Need-lane-requires
-lane-requires c κs = search needs
+add-kept-high : tie.Need-add-kept-high
+add-kept-high c = search needs
 
-lane-requires-2 : tie.Need-lane-requires-2
-lane-requires-2 c κs = search needs
+kept-high-requires : tie.Need-kept-high-requires
+kept-high-requires c κs = search needs
 
-lane-requires-3 : tie.Need-lane-requires-3
-lane-requires-3 c κs = search needs
+mul-half : tie.Need-mul-half
+mul-half c = search needs
 
-lane-requires-4 : tie.Need-lane-requires-4
-lane-requires-4 c κs = search needs
+kept-low-requires : tie.Need-kept-low-requires
+kept-low-requires c κs = search needs
 
-lane-requires-5 : tie.Need-lane-requires-5
-lane-requires-5 c κs = search needs
+shl-between : tie.Need-shl-between
+shl-between c = search needs
 
-lane-requires-6 : tie.Need-lane-requires-6
-lane-requires-6 c κs = search needs
+shl-between-2 : tie.Need-shl-between-2
+shl-between-2 c = search needs
 
-lane-requires-7 : tie.Need-lane-requires-7
-lane-requires-7 c κs = search needs
-
-lane-requires-8 : tie.Need-lane-requires-8
-lane-requires-8 c κs = search needs
-
-slice-aggregate-eight-of : tie.Need-slice-aggregate-eight-of
-slice-aggregate-eight-of c = search needs
-
-eight-of-requires : tie.Need-eight-of-requires
-eight-of-requires c κs = search needs
+kept-low-requires-2 : tie.Need-kept-low-requires-2
+kept-low-requires-2 c κs = search needs
 
 returns : tie.Need-returns
 returns c =
-    let c5 = c .before .before .before .before .before in
-    let c1 = c5 .before .before .before .before in
-    c .eight-of .ensures
-    ∙ rw (
-      c1 .lane .ensures,
-      c5 .before .before .before .lane2 .ensures,
-      c5 .before .before .lane3 .ensures,
-      c5 .before .lane4 .ensures,
-      c5 .lane5 .ensures,
-      c .before .before .before .before .lane6 .ensures,
-      c .before .before .before .lane7 .ensures,
-      c .before .before .lane8 .ensures,
-    )
-    (eight-bytes _ (with-lt _ _ _ _ (c1 .before .pre) (search needs)))
+    merged _ _ _ _ (c .before .before .before .pre) _ _ _ (c .before .before .kept-high .ensures) (c .before .kept-low .ensures) (c .kept-low2 .ensures)
+
+add-result : tie.Need-add-result
+add-result c = let m = merged-fits _ _ _ _ (c .before .before .before .pre) _ (returns c) (search needs) in omega arith
+
+add-result-2 : tie.Need-add-result-2
+add-result-2 c = let m = merged-fits _ _ _ _ (c .before .before .before .pre) _ (returns c) (search needs) in omega arith
 
 pub merge-spec : {M : Type 1} → statement M
 merge-spec =
     tie.close
     (tie.spec
-    lane-requires
-    lane-requires-2
-    lane-requires-3
-    lane-requires-4
-    lane-requires-5
-    lane-requires-6
-    lane-requires-7
-    lane-requires-8
-    slice-aggregate-eight-of
-    eight-of-requires
+    add-kept-high
+    kept-high-requires
+    mul-half
+    kept-low-requires
+    shl-between
+    shl-between-2
+    kept-low-requires-2
+    add-result
+    add-result-2
     returns)

@@ -1,9 +1,11 @@
 /* A plain interpreter of document 01's machine, to measure the proved one beside: the machine by pointer, every fetch and data
-   access by a search of all 48 slots. It knows the instructions that bench/sweep.s uses and their kin; the others (unaligned,
-   linked and doubleword ones, traps, divisions, likely branches) are reserved here. Usage: card [STEPS] */
+   access by a search of all 48 slots. It knows the instructions that bench/sweep.s and bench/unaligned.s use and their kin: the
+   unaligned loads and stores too, and of doublewords LD, SD and DADDU. The others (LWU, linked ones, other arithmetic of doublewords,
+   traps, divisions, likely branches) are reserved here. Usage: card [STEPS [PROGRAM]], PROGRAM sweep (usual) or unaligned. */
 #include <stdint.h>
 #include <stdio.h>
 #include <stdlib.h>
+#include <string.h>
 #include "program.h"
 
 enum { INT, MOD, TLBL, TLBS, ADEL, ADES, IBE, DBE, SYS, BP, RI, CPU, OV, TR };
@@ -58,6 +60,11 @@ static void enter_page(Machine *m, uint32_t code, uint64_t v, int refill) {
 static void enter_address(Machine *m, uint32_t code, uint64_t v) {
   m->badvaddr = v;
   enter(m, code, 0, 0);
+}
+
+static int reserved(Machine *m) {
+  enter(m, RI, 0, 0);
+  return 0;
 }
 
 /* What became of an access: its physical address in *p, an exception that was entered, or stop 16. */
@@ -125,6 +132,20 @@ static uint32_t half_at(const uint8_t *b) { return (uint32_t)b[0] << 8 | b[1]; }
 
 static uint32_t word_at(const uint8_t *b) { return half_at(b) << 16 | half_at(b + 2); }
 
+static inline uint64_t doubleword_at(const uint8_t *b) { return (uint64_t)word_at(b) << 32 | word_at(b + 4); }
+
+static void put_word(uint8_t *b, uint32_t x) {
+  b[0] = (uint8_t)(x >> 24);
+  b[1] = (uint8_t)(x >> 16);
+  b[2] = (uint8_t)(x >> 8);
+  b[3] = (uint8_t)x;
+}
+
+static void put_doubleword(uint8_t *b, uint64_t x) {
+  put_word(b, (uint32_t)(x >> 32));
+  put_word(b + 4, (uint32_t)x);
+}
+
 static void write(Machine *m, unsigned i, uint64_t x) {
   if (i)
     m->regs[i] = x;
@@ -143,7 +164,7 @@ static void branch(Machine *m, uint64_t to) {
 }
 
 static int load(Machine *m, const Memory *y, unsigned op, unsigned rt, uint64_t v) {
-  uint64_t p, size = op == 0x23 ? 4 : op & 1 ? 2 : 1;
+  uint64_t p, size = op == 0x37 ? 8 : op == 0x23 ? 4 : op & 1 ? 2 : 1;
   int went = translate(m, v, size, 0, &p);
   if (went == DOUBLE)
     return 16;
@@ -160,13 +181,52 @@ static int load(Machine *m, const Memory *y, unsigned op, unsigned rt, uint64_t 
   case 0x23: write(m, rt, extend(word_at(b))); break;
   case 0x24: write(m, rt, *b); break;
   case 0x25: write(m, rt, half_at(b)); break;
+  case 0x37: write(m, rt, doubleword_at(b)); break;
+  }
+  onward(m);
+  return 0;
+}
+
+/* LWL, LWR, LDL, LDR: the bytes from the address to an end of its aligned word or doubleword; the rest of the register is kept. */
+static int load_part(Machine *m, const Memory *y, unsigned op, unsigned rt, uint64_t old, uint64_t v) {
+  uint64_t p;
+  int went = translate(m, v, 1, 0, &p);
+  if (went == DOUBLE)
+    return 16;
+  if (went == RAISED)
+    return 0;
+  const uint8_t *b = part(y, p & ~(uint64_t)(op < 0x20 ? 7 : 3));
+  if (!b) {
+    enter(m, DBE, 0, 0);
+    return 0;
+  }
+  unsigned shift;
+  uint32_t x;
+  switch (op) {
+  case 0x1a:
+    shift = 8 * (p & 7);
+    write(m, rt, doubleword_at(b) << shift | (old & (((uint64_t)1 << shift) - 1)));
+    break;
+  case 0x1b:
+    shift = 56 - 8 * (p & 7);
+    write(m, rt, doubleword_at(b) >> shift | (old & ~(~(uint64_t)0 >> shift)));
+    break;
+  case 0x22:
+    shift = 8 * (p & 3);
+    write(m, rt, extend(word_at(b) << shift | ((uint32_t)old & ((1u << shift) - 1))));
+    break;
+  case 0x26:
+    shift = 24 - 8 * (p & 3);
+    x = word_at(b) >> shift | ((uint32_t)old & ~(~0u >> shift));
+    write(m, rt, shift ? (old & ~(uint64_t)0xffffffff) | x : extend(x));
+    break;
   }
   onward(m);
   return 0;
 }
 
 static int store(Machine *m, const Memory *y, unsigned op, uint64_t x, uint64_t v) {
-  uint64_t p, size = op == 0x2b ? 4 : op == 0x29 ? 2 : 1;
+  uint64_t p, size = op == 0x3f ? 8 : op == 0x2b ? 4 : op == 0x29 ? 2 : 1;
   int went = translate(m, v, size, 1, &p);
   if (went == DOUBLE)
     return 16;
@@ -178,6 +238,42 @@ static int store(Machine *m, const Memory *y, unsigned op, uint64_t x, uint64_t 
   }
   for (uint64_t i = 0; i < size; i++)
     y->ram[p + i] = (uint8_t)(x >> (8 * (size - 1 - i)));
+  onward(m);
+  return 0;
+}
+
+/* SWL, SWR, SDL, SDR: the same bytes of memory, from an end of the register; the rest of the word or doubleword is kept. */
+static int store_part(Machine *m, const Memory *y, unsigned op, uint64_t x, uint64_t v) {
+  uint64_t p;
+  int went = translate(m, v, 1, 1, &p);
+  if (went == DOUBLE)
+    return 16;
+  if (went == RAISED)
+    return 0;
+  if (p >= y->ram_length) {
+    enter(m, DBE, 0, 0);
+    return 0;
+  }
+  uint8_t *word = y->ram + (p & ~(uint64_t)3), *doubleword = y->ram + (p & ~(uint64_t)7);
+  unsigned shift;
+  switch (op) {
+  case 0x2a:
+    shift = 8 * (p & 3);
+    put_word(word, (word_at(word) & ~(~0u >> shift)) | (uint32_t)x >> shift);
+    break;
+  case 0x2c:
+    shift = 8 * (p & 7);
+    put_doubleword(doubleword, (doubleword_at(doubleword) & ~(~(uint64_t)0 >> shift)) | x >> shift);
+    break;
+  case 0x2d:
+    shift = 56 - 8 * (p & 7);
+    put_doubleword(doubleword, (doubleword_at(doubleword) & (((uint64_t)1 << shift) - 1)) | x << shift);
+    break;
+  case 0x2e:
+    shift = 24 - 8 * (p & 3);
+    put_word(word, (word_at(word) & ((1u << shift) - 1)) | (uint32_t)x << shift);
+    break;
+  }
   onward(m);
   return 0;
 }
@@ -234,7 +330,12 @@ static int special(Machine *m, uint32_t w, uint64_t a, uint64_t b) {
   case 0x27: write(m, rd, ~(a | b)); break;
   case 0x2a: write(m, rd, (int64_t)a < (int64_t)b); break;
   case 0x2b: write(m, rd, a < b); break;
-  default: enter(m, RI, 0, 0); return 0;
+  case 0x2d:
+    if (user(m))
+      return reserved(m);
+    write(m, rd, a + b);
+    break;
+  default: return reserved(m);
   }
   onward(m);
   return 0;
@@ -326,10 +427,10 @@ static int cop0(Machine *m, uint32_t w, uint8_t lines) {
       m->status &= ~(uint32_t)(m->status & ERL ? ERL : EXL);
       m->link = 0;
       return 0;
-    default: enter(m, RI, 0, 0); return 0;
+    default: return reserved(m);
     }
     break;
-  default: enter(m, RI, 0, 0); return 0;
+  default: return reserved(m);
   }
   if (stop == 0)
     onward(m);
@@ -353,7 +454,7 @@ static int execute(Machine *m, const Memory *y, uint8_t lines, uint32_t w) {
     switch (rt) {
     case 0: return plain(m, w, (int64_t)a < 0);
     case 1: return plain(m, w, (int64_t)a >= 0);
-    default: enter(m, RI, 0, 0); return 0;
+    default: return reserved(m);
     }
   case 0x02: case 0x03:
     if (m->slot)
@@ -382,9 +483,27 @@ static int execute(Machine *m, const Memory *y, uint8_t lines, uint32_t w) {
   case 0x0f: write(m, rt, extend(w << 16)); break;
   case 0x10: return cop0(m, w, lines);
   case 0x11: case 0x12: enter(m, CPU, op & 3, 0); return 0;
+  case 0x37:
+    if (user(m))
+      return reserved(m);
+    /* fall through */
   case 0x20: case 0x21: case 0x23: case 0x24: case 0x25: return load(m, y, op, rt, a + immediate);
+  case 0x1a: case 0x1b:
+    if (user(m))
+      return reserved(m);
+    /* fall through */
+  case 0x22: case 0x26: return load_part(m, y, op, rt, b, a + immediate);
+  case 0x3f:
+    if (user(m))
+      return reserved(m);
+    /* fall through */
   case 0x28: case 0x29: case 0x2b: return store(m, y, op, b, a + immediate);
-  default: enter(m, RI, 0, 0); return 0;
+  case 0x2c: case 0x2d:
+    if (user(m))
+      return reserved(m);
+    /* fall through */
+  case 0x2a: case 0x2e: return store_part(m, y, op, b, a + immediate);
+  default: return reserved(m);
   }
   onward(m);
   return 0;
@@ -430,10 +549,33 @@ static int run(Machine *m, const Memory *y, uint8_t lines, uint64_t budget, uint
   return 0;
 }
 
-static void poke(uint8_t *to, const uint32_t *words, unsigned count) {
-  for (unsigned i = 0; i < count; i++)
-    for (unsigned j = 0; j < 4; j++)
-      to[4 * i + j] = (uint8_t)(words[i] >> (24 - 8 * j));
+typedef struct {
+  const uint32_t *words;
+  unsigned count;
+} Table;
+
+typedef struct {
+  const char *name;
+  Table boot, kernel, user, other;
+} Program;
+
+#define TABLE(words) {words, sizeof words / 4}
+
+static const Program programs[] = {
+  {"sweep", TABLE(SWEEP_BOOT), TABLE(SWEEP_KERNEL), TABLE(SWEEP_USER), TABLE(SWEEP_OTHER)},
+  {"unaligned", TABLE(UNALIGNED_BOOT), TABLE(UNALIGNED_KERNEL), TABLE(UNALIGNED_USER), TABLE(UNALIGNED_OTHER)},
+};
+
+static const Program *program_of(const char *name) {
+  for (unsigned i = 0; i < sizeof programs / sizeof *programs; i++)
+    if (!strcmp(name, programs[i].name))
+      return &programs[i];
+  return 0;
+}
+
+static void poke(uint8_t *to, Table t) {
+  for (unsigned i = 0; i < t.count; i++)
+    put_word(to + 4 * i, t.words[i]);
 }
 
 static uint64_t mix(uint64_t x, uint64_t v) { return x * 31 + v; }
@@ -444,10 +586,15 @@ int main(int argc, char **argv) {
   Machine *m = &machine;
   Memory memory = {ram, rom, sizeof ram, sizeof rom};
   uint64_t steps, budget = argc > 1 ? strtoull(argv[1], 0, 10) : 1000;
-  poke(rom, BOOT, sizeof BOOT / 4);
-  poke(ram + 0x180, KERNEL, sizeof KERNEL / 4);
-  poke(ram + 0x2000, USER, sizeof USER / 4);
-  poke(ram + 0x3000, OTHER, sizeof OTHER / 4);
+  const Program *program = program_of(argc > 2 ? argv[2] : "sweep");
+  if (argc > 3 || !program) {
+    fputs("card: write card [STEPS [PROGRAM]], PROGRAM sweep or unaligned\n", stderr);
+    return 2;
+  }
+  poke(rom, program->boot);
+  poke(ram + 0x180, program->kernel);
+  poke(ram + 0x2000, program->user);
+  poke(ram + 0x3000, program->other);
   m->pc = 0xffffffffbfc00000;
   m->status = BEV | ERL;
   m->random = 47;

@@ -1,6 +1,6 @@
 /* The words of bench/sweep.s, made by bench/assemble. */
 /* ROM, from bfc00000. */
-static const uint32_t BOOT[37] = {
+static const uint32_t SWEEP_BOOT[37] = {
 0x24080005,
 0x40880000,
 0x3c080040,
@@ -40,7 +40,7 @@ static const uint32_t BOOT[37] = {
 0x42000018,
 };
 /* The exception vector, from physical 180. */
-static const uint32_t KERNEL[11] = {
+static const uint32_t SWEEP_KERNEL[11] = {
 0x401a6800,
 0x335a007c,
 0x1740ffff,
@@ -54,7 +54,7 @@ static const uint32_t KERNEL[11] = {
 0x42000018,
 };
 /* The program's first page, from physical 2000. */
-static const uint32_t USER[51] = {
+static const uint32_t SWEEP_USER[51] = {
 0x3c1d7fff,
 0x37bdeff0,
 0x3c101000,
@@ -108,7 +108,7 @@ static const uint32_t USER[51] = {
 0x02d5b021,
 };
 /* Its second page, from physical 3000. */
-static const uint32_t OTHER[14] = {
+static const uint32_t SWEEP_OTHER[14] = {
 0x27bdfff0,
 0xafbf000c,
 0x00850018,
@@ -123,4 +123,127 @@ static const uint32_t OTHER[14] = {
 0x8fbf000c,
 0x03e00008,
 0x27bd0010,
+};
+/* The words of bench/unaligned.s, made by bench/assemble. */
+/* ROM, from bfc00000. */
+static const uint32_t UNALIGNED_BOOT[37] = {
+0x24080005,
+0x40880000,
+0x3c080040,
+0x35080001,
+0x40885000,
+0x2408009a,
+0x40881000,
+0x25080040,
+0x40881800,
+0x42000002,
+0x24080011,
+0x40880000,
+0x3c081000,
+0x35080001,
+0x40885000,
+0x2408011e,
+0x40881000,
+0x25080040,
+0x40881800,
+0x42000002,
+0x2408001e,
+0x40880000,
+0x3c087fff,
+0x3508e001,
+0x40885000,
+0x2408019e,
+0x40881000,
+0x25080040,
+0x40881800,
+0x42000002,
+0x240803e8,
+0x40885800,
+0x3c080040,
+0x40887000,
+0x34088003,
+0x40886000,
+0x42000018,
+};
+/* The exception vector, from physical 180. */
+static const uint32_t UNALIGNED_KERNEL[11] = {
+0x401a6800,
+0x335a007c,
+0x1740ffff,
+0x401b5800,
+0x277b03e8,
+0x409b5800,
+0x3c1a8000,
+0x8f5b0800,
+0x277b0001,
+0xaf5b0800,
+0x42000018,
+};
+/* The program's first page, from physical 2000. */
+static const uint32_t UNALIGNED_USER[51] = {
+0x3c101000,
+0x3c111000,
+0x36311000,
+0x3c089e37,
+0x350879b9,
+0xae080000,
+0x3c087f4a,
+0x35087c15,
+0xae080004,
+0xde090000,
+0x01205025,
+0x02005821,
+0x260c0340,
+0xfd6a0000,
+0x256b0008,
+0x156cfffd,
+0x0149502d,
+0x02009821,
+0x26340005,
+0x24120040,
+0x8a680000,
+0x9a680003,
+0x6a690004,
+0x6e69000b,
+0x926a000c,
+0x8a750001,
+0x6e750006,
+0x6a760009,
+0x9a760007,
+0x02e8b821,
+0x01354826,
+0x05010003,
+0x0136482d,
+0x01204827,
+0x254a0007,
+0x00175943,
+0x01775826,
+0x314c003c,
+0x01916021,
+0x8d8d0c00,
+0x014b5021,
+0x25ad0001,
+0x0c100400,
+0xad8d0c00,
+0x2652ffff,
+0x1e40ffe6,
+0x2673000d,
+0x02117026,
+0x020e8026,
+0x08100011,
+0x022e8826,
+};
+/* Its second page, from physical 3000. */
+static const uint32_t UNALIGNED_OTHER[11] = {
+0xaa8b0000,
+0xba8b0003,
+0xb2890004,
+0xb689000b,
+0xa28a000c,
+0xaa950008,
+0xb6950001,
+0xb296000a,
+0xba960002,
+0x03e00008,
+0x2694000d,
 };

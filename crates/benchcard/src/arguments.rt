@@ -1,4 +1,4 @@
-// The argument: how many steps are run.
+// The arguments: how many steps are run, and of which program.
 use program::End;
 ghost use mathlib.Core.Path.{_≡_};
 ghost use Prim.Native.Nat.{_≤_};
@@ -8,6 +8,18 @@ ghost use Rattle.benchcard.specs.Arguments as Rule;
 // The steps that an argument asks for, or it asks for none.
 pub enum Steps {
     Are(u64),
+    Wrong,
+}
+
+// The programs of bench/.
+pub enum Program {
+    Sweep,
+    Unaligned,
+}
+
+// The program that an argument names, or it names none.
+pub enum Named {
+    Is(Program),
     Wrong,
 }
 
@@ -58,10 +70,40 @@ fn steps_of(word: &[u8]) -> Steps
     number(word)
 }
 
-// The argument; a second is one too many.
+// Whether two words have the same bytes.
+fn same(a: &[u8], b: &[u8]) -> bool
+    ensures { λ r. ⌜ r ≡ Rule.same (now (a .entry)) (now (b .entry)) ⌝ }
+{
+    if a.len() != b.len() {
+        return false;
+    }
+    let mut i: usize = 0;
+    while i < a.len() {
+        if a[i] != b[i] {
+            return false;
+        }
+        i = i + 1;
+    }
+    true
+}
+
+// A program's name, and nothing else.
+fn program_of(word: &[u8]) -> Named
+    ensures { λ r. ⌜ r ≡ Rule.programOf (now (word .entry)) ⌝ }
+{
+    if same(word, b"sweep") {
+        return Named::Is(Program::Sweep);
+    }
+    if same(word, b"unaligned") {
+        return Named::Is(Program::Unaligned);
+    }
+    Named::Wrong
+}
+
+// The first argument; a third is one too many.
 pub(crate) fn steps_given() -> Steps {
     let count = os::arg_count();
-    if 2 < count {
+    if 3 < count {
         return Steps::Wrong;
     }
     if count < 2 {
@@ -75,9 +117,22 @@ pub(crate) fn steps_given() -> Steps {
     steps_of(&word[..n])
 }
 
+// The second argument, the sweep where there is none.
+pub(crate) fn program_given() -> Named {
+    if os::arg_count() < 3 {
+        return Named::Is(Program::Sweep);
+    }
+    let mut word = io::buffer();
+    let n = os::arg(2, &mut word);
+    if os::errno() != 0 {
+        return Named::Wrong;
+    }
+    program_of(&word[..n])
+}
+
 // Says which arguments are taken.
 pub(crate) fn misused() -> End {
     program::misused(
-        b"benchcard: one argument is taken, a number of steps of at most 16 decimal digits\n",
+        b"benchcard: the arguments are [STEPS [PROGRAM]]: steps, at most 16 decimal digits, and a program, sweep or unaligned\n",
     )
 }

@@ -1,8 +1,12 @@
-// Runs bench/sweep.s on a fresh machine for as many steps as the argument says, 1000 without one, and prints one number for what is left.
+// Runs a program of bench/ on a fresh machine for as many steps as the arguments say, and prints one number for what is left.
+// Without arguments, 1000 steps of the sweep.
 mod arguments;
 mod line;
 mod sweep;
+mod unaligned;
 
+use arguments::Named;
+use arguments::Program;
 use arguments::Steps;
 use cp0::Cp0;
 use effect::Cpu;
@@ -23,6 +27,44 @@ fn poke(bytes: &mut [u8], from: u64, words: &[u64]) {
         memory::put_bytes(&mut *bytes, s);
         to = std::num::wrapping_add_u64(to, 4);
         i = i + 1;
+    }
+}
+
+// A program's four tables go to ROM and RAM.
+fn put_tables(
+    rom: &mut [u8],
+    ram: &mut [u8],
+    boot: &[u64],
+    kernel: &[u64],
+    user: &[u64],
+    other: &[u64],
+) {
+    poke(&mut *rom, 0, boot);
+    poke(&mut *ram, 0x180, kernel);
+    poke(&mut *ram, 0x2000, user);
+    poke(&mut *ram, 0x3000, other);
+}
+
+fn put_sweep(rom: &mut [u8], ram: &mut [u8]) {
+    let boot = sweep::BOOT;
+    let kernel = sweep::KERNEL;
+    let user = sweep::USER;
+    let other = sweep::OTHER;
+    put_tables(&mut *rom, &mut *ram, &boot, &kernel, &user, &other);
+}
+
+fn put_unaligned(rom: &mut [u8], ram: &mut [u8]) {
+    let boot = unaligned::BOOT;
+    let kernel = unaligned::KERNEL;
+    let user = unaligned::USER;
+    let other = unaligned::OTHER;
+    put_tables(&mut *rom, &mut *ram, &boot, &kernel, &user, &other);
+}
+
+fn put_program(program: Program, rom: &mut [u8], ram: &mut [u8]) {
+    match program {
+        Program::Sweep => put_sweep(&mut *rom, &mut *ram),
+        Program::Unaligned => put_unaligned(&mut *rom, &mut *ram),
     }
 }
 
@@ -68,18 +110,11 @@ fn sum_of_bytes(from: u64, bytes: &[u8]) -> u64 {
     x
 }
 
-// Runs bench/sweep.s and gives the line.
-fn answer(budget: u64) -> End {
+// Runs a program and gives the line.
+fn answer(budget: u64, program: Program) -> End {
     let mut ram = [0u8; 32768];
     let mut rom = [0u8; 256];
-    let boot = sweep::BOOT;
-    let kernel = sweep::KERNEL;
-    let user = sweep::USER;
-    let other = sweep::OTHER;
-    poke(&mut rom, 0, &boot);
-    poke(&mut ram, 0x180, &kernel);
-    poke(&mut ram, 0x2000, &user);
-    poke(&mut ram, 0x3000, &other);
+    put_program(program, &mut rom, &mut ram);
     let r = card::run(card::fresh(), &mut ram, &rom, 0, budget);
     let m = r.machine;
     let regs = m.regs;
@@ -88,10 +123,13 @@ fn answer(budget: u64) -> End {
     line::give_line(r.steps, sum)
 }
 
-// Reads the argument and answers.
+// Reads the arguments and answers.
 pub fn benchcard() -> End {
     let Steps::Are(budget) = arguments::steps_given() else {
         return arguments::misused();
     };
-    answer(budget)
+    let Named::Is(program) = arguments::program_given() else {
+        return arguments::misused();
+    };
+    answer(budget, program)
 }

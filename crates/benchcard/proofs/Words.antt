@@ -1,12 +1,12 @@
--- Whether two words have the same bytes: what one byte decides, and that it means that the words are equal.
+-- Whether two words have the same bytes: what their lengths and one byte decide.
 use Prim.Native.Nat.{ℕ, suc, _+_, _<_, _≤_}
 use mathlib.Core.Bool.{Bool, true, false}
-use mathlib.Core.Path.{_≡_, refl, sym, ap, ap₂, subst}
+use mathlib.Core.Path.{_≡_, refl, ap}
 use mathlib.Core.List.{List, [], _∷_}
 use native.Mathlib.Numerals.{add-one}
 use native.Mathlib.Omega.{arith}
 use lib.ListN.{length, getD, drop}
-use lib.Dec.{T, eqb, eqb→eq}
+use lib.Dec.{eqb}
 use lib.Seq.{drop-cons, drop-length}
 use borrow.Author.Tests.{eq-eqb, ne-eqb}
 use Rattle.promise.specs.Pick.{both}
@@ -38,17 +38,3 @@ module _ (a b : List ℕ) (i : ℕ) (l : length a ≡ length b) where
   pub no-more-bytes : i ≤ length a → length a ≤ i → same (drop i a) (drop i b) ≡ true
   unfolding same
   no-more-bytes h g = rw (drop-end a i (omega (arith, h, g)), drop-end b i (omega (arith, h, g, l)))
-
-split : (s t : Bool) → both s t ≡ true → (s ≡ true) × (t ≡ true)
-split true t e = (refl, e)
-split false t e = absurd (subst T (sym e) tt)
-
--- words that are taken for the same are equal
-pub same-equal : (a b : List ℕ) → same a b ≡ true → a ≡ b
-unfolding same
-same-equal [] [] e = refl
-same-equal [] (y ∷ b) e = absurd (subst T (sym e) tt)
-same-equal (x ∷ a) [] e = absurd (subst T (sym e) tt)
-same-equal (x ∷ a) (y ∷ b) e =
-    let p : (eqb x y ≡ true) × (same a b ≡ true) = split (eqb x y) (same a b) e
-    in ap₂ _∷_ (eqb→eq x y (subst T (sym (p .0)) tt)) (same-equal a b (p .1))

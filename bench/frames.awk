@@ -2,11 +2,19 @@
 # The first file has lines `NAME FUNCTION CALLER..`. For each it prints NAME, the bytes of the deepest chain of calls from card::run
 # through the function, and the chain with the bytes of each frame. Where the compiler took the function into its caller, the chain ends with
 # the first of the callers that there is, or with card::run.
-# A frame is the return address, what is pushed and taken, and what a leaf uses below; a function of the C library is its return address.
+# A frame is the return address, what is pushed and taken, and what a leaf uses below; the C library's functions for memory are their return
+# address. What it cannot add up it refuses: a function that calls itself, a call by a pointer, another function outside, another change of the
+# stack pointer.
 
 function number(s, i, n) {
   for (i = 1; i <= length(s); i++) n = n * 16 + index("0123456789abcdef", substr(s, i, 1)) - 1
   return n + 0
+}
+
+function refuse(what) {
+  print "frames: " what
+  refused = 1
+  exit 1
 }
 
 function ended() {
@@ -18,10 +26,9 @@ function ended() {
 # The deepest chain from f on: its bytes in deep[f], its next function in next_of[f].
 function go_down(f, i, to, n, bytes) {
   if (f in deep) return deep[f]
-  if (f in busy) {
-    print "frames: " f " calls itself"
-    exit 1
-  }
+  if (f in busy) refuse(f " calls itself")
+  if (f in odd) refuse(f " " odd[f])
+  if (!(f in frame) && f !~ /^mem(cpy|move|set|cmp)$/) refuse(f " is not in the object")
   busy[f] = 1
   bytes = own(f)
   n = calls[f]
@@ -90,31 +97,26 @@ FILENAME == ARGV[1] { ways[++ways_count] = $0; next }
   next
 }
 NF >= 2 { operation = $2 }
-operation == "call" && $3 ~ /^\*/ { pointers[name] = 1 }
+operation ~ /^call/ && $3 ~ /^\*/ { odd[name] = "calls by a pointer" }
+operation ~ /^call/ && $NF == "<" name ">" { odd[name] = "calls itself" }
 operation ~ /^push/ { pushed++ }
-operation == "sub" && $3 ~ /^\$0x[0-9a-f]+,%rsp$/ {
-  taken += number(substr($3, 4, index($3, ",") - 4))
+/,%rsp$/ {
+  if (operation ~ /^sub/ && $3 ~ /^\$0x[0-9a-f]+,%rsp$/) taken += number(substr($3, 4, index($3, ",") - 4))
+  else if (operation !~ /^add/ || $3 !~ /^\$0x[0-9a-f]+,/ || $3 ~ /^\$0xffffffff/) odd[name] = "changes the stack pointer by " operation
 }
 match($0, /-0x[0-9a-f]+\(%rsp\)/) {
   bytes = number(substr($0, RSTART + 3, RLENGTH - 9))
   if (bytes > below) below = bytes
 }
 END {
+  if (refused) exit 1
   ended()
-  if (!(run in frame)) {
-    print "frames: the object has no " run
-    exit 1
-  }
+  if (!(run in frame)) refuse("the object has no " run)
   go_down(run)
   for (i = 1; i <= ways_count; i++) {
     count = split(ways[i], words, " ")
     to = run
     for (k = count; k > 1; k--) if (words[k] in deep) to = words[k]
     show(words[1], to, to == words[2])
-  }
-  for (f in pointers) {
-    if (!(f in deep)) continue
-    print "frames: " f " calls by a pointer"
-    exit 1
   }
 }

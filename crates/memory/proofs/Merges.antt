@@ -9,12 +9,12 @@ use Rattle.memory.specs.Bytes.{withBytes}
 use Rattle.memory.specs.BytesLaws.{with-lt}
 
 -- half of the way twice is all of it
-module _ (x n : ℕ) where
-  halves : 4 * n + 4 * n ≡ 8 * n
-  halves = omega arith
+halves : (n : ℕ) → 4 * n + 4 * n ≡ 8 * n
+halves n = omega arith
 
+module _ (x n : ℕ) where
   down-halves : x / 2 ^ (4 * n) / 2 ^ (4 * n) ≡ x / 2 ^ (8 * n)
-  down-halves = shr-shr x (4 * n) (4 * n) ∙ ap (λ (k : ℕ). x / 2 ^ k) halves
+  down-halves = shr-shr x (4 * n) (4 * n) ∙ ap (λ (k : ℕ). x / 2 ^ k) (halves n)
 
   up-halves : x * 2 ^ (4 * n) % 2 ^ 64 * 2 ^ (4 * n) % 2 ^ 64 ≡ x * 2 ^ (8 * n) % 2 ^ 64
   up-halves =
@@ -24,7 +24,7 @@ module _ (x n : ℕ) where
       ap (λ (k : ℕ). k * p) (sym (div-add-mod' q (2 ^ 64)))
       ∙ add-mul (q / 2 ^ 64 * 2 ^ 64) (q % 2 ^ 64) p
       ∙ ap (λ (k : ℕ). k + q % 2 ^ 64 * p) (mul-right-comm (q / 2 ^ 64) (2 ^ 64) p) in
-      let f : q * p ≡ x * 2 ^ (8 * n) = mul-assoc x p p ∙ ap (λ (k : ℕ). x * k) (sym (pow-add 2 (4 * n) (4 * n)) ∙ ap (λ (k : ℕ). 2 ^ k) halves) in
+      let f : q * p ≡ x * 2 ^ (8 * n) = mul-assoc x p p ∙ ap (λ (k : ℕ). x * k) (sym (pow-add 2 (4 * n) (4 * n)) ∙ ap (λ (k : ℕ). 2 ^ k) (halves n)) in
       sym (mul-add-mod-self-right (q / 2 ^ 64 * p) (2 ^ 64) (q % 2 ^ 64 * p)) ∙ ap (λ (k : ℕ). k % 2 ^ 64) (sym e ∙ f)
 
 module _ (x n : ℕ) where

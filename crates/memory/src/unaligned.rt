@@ -6,7 +6,7 @@ ghost use Prim.Native.Nat.{ℕ, _+_, _*_, _/_, _%_, _^_, _≤_};
 ghost use Rattle.memory.specs.Bytes as B;
 ghost use Rattle.memory.specs.Unaligned as U;
 
-// The low `n` bytes of a number: the others are shifted out. In two halves, since a shift by 64 is none.
+// The low `n` bytes of a number: the others are shifted out. In two halves, since no shift may be by 64.
 fn kept_low(x: u64, n: u64) -> u64
     requires { ⌜ n ≤ 8 ⌝ }
     ensures { λ r. ⌜ r ≡ x % 2 ^ (8 * n) ⌝ }

@@ -27,6 +27,8 @@
         mtc0    $t0, $11                # Compare
         lui     $t0, 0x40
         mtc0    $t0, $14                # EPC
+
+        .section .start, "ax"           # bfc00088, right behind it: all that differs from program to program
         li      $t0, STATUS
         mtc0    $t0, $12                # Status
         eret

@@ -556,14 +556,14 @@ typedef struct {
 
 typedef struct {
   const char *name;
-  Table boot, kernel, user, other;
+  Table start, user, other;
 } Program;
 
 #define TABLE(words) {words, sizeof words / 4}
 
 static const Program programs[] = {
-  {"sweep", TABLE(SWEEP_BOOT), TABLE(SWEEP_KERNEL), TABLE(SWEEP_USER), TABLE(SWEEP_OTHER)},
-  {"unaligned", TABLE(UNALIGNED_BOOT), TABLE(UNALIGNED_KERNEL), TABLE(UNALIGNED_USER), TABLE(UNALIGNED_OTHER)},
+  {"sweep", TABLE(SWEEP_START), TABLE(SWEEP_USER), TABLE(SWEEP_OTHER)},
+  {"unaligned", TABLE(UNALIGNED_START), TABLE(UNALIGNED_USER), TABLE(UNALIGNED_OTHER)},
 };
 
 static const Program *program_of(const char *name) {
@@ -591,8 +591,9 @@ int main(int argc, char **argv) {
     fputs("card: write card [STEPS [PROGRAM]], PROGRAM sweep or unaligned\n", stderr);
     return 2;
   }
-  poke(rom, program->boot);
-  poke(ram + 0x180, program->kernel);
+  poke(rom, (Table)TABLE(BOOT));
+  poke(rom + 0x88, program->start);
+  poke(ram + 0x180, (Table)TABLE(KERNEL));
   poke(ram + 0x2000, program->user);
   poke(ram + 0x3000, program->other);
   m->pc = 0xffffffffbfc00000;

@@ -1,6 +1,7 @@
 // Runs a program of bench/ on a fresh machine for as many steps as the arguments say, and prints one number for what is left.
 // Without arguments, 1000 steps of the sweep.
 mod arguments;
+mod boot;
 mod line;
 mod sweep;
 mod unaligned;
@@ -30,35 +31,29 @@ fn poke(bytes: &mut [u8], from: u64, words: &[u64]) {
     }
 }
 
-// A program's four tables go to ROM and RAM.
-fn put_tables(
-    rom: &mut [u8],
-    ram: &mut [u8],
-    boot: &[u64],
-    kernel: &[u64],
-    user: &[u64],
-    other: &[u64],
-) {
-    poke(&mut *rom, 0, boot);
-    poke(&mut *ram, 0x180, kernel);
+// The boot ROM, the handler and a program's three tables go to ROM and RAM.
+fn put_tables(rom: &mut [u8], ram: &mut [u8], start: &[u64], user: &[u64], other: &[u64]) {
+    let boot = boot::BOOT;
+    let kernel = boot::KERNEL;
+    poke(&mut *rom, 0, &boot);
+    poke(&mut *rom, 0x88, start);
+    poke(&mut *ram, 0x180, &kernel);
     poke(&mut *ram, 0x2000, user);
     poke(&mut *ram, 0x3000, other);
 }
 
 fn put_sweep(rom: &mut [u8], ram: &mut [u8]) {
-    let boot = sweep::BOOT;
-    let kernel = sweep::KERNEL;
+    let start = sweep::START;
     let user = sweep::USER;
     let other = sweep::OTHER;
-    put_tables(&mut *rom, &mut *ram, &boot, &kernel, &user, &other);
+    put_tables(&mut *rom, &mut *ram, &start, &user, &other);
 }
 
 fn put_unaligned(rom: &mut [u8], ram: &mut [u8]) {
-    let boot = unaligned::BOOT;
-    let kernel = unaligned::KERNEL;
+    let start = unaligned::START;
     let user = unaligned::USER;
     let other = unaligned::OTHER;
-    put_tables(&mut *rom, &mut *ram, &boot, &kernel, &user, &other);
+    put_tables(&mut *rom, &mut *ram, &start, &user, &other);
 }
 
 fn put_program(program: Program, rom: &mut [u8], ram: &mut [u8]) {

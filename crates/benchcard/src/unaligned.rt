@@ -1,60 +1,7 @@
 // The words of bench/unaligned.s, made by bench/assemble.
 
-// ROM, from bfc00000.
-pub const BOOT: [u64; 37] = [
-    0x24080005,
-    0x40880000,
-    0x3c080040,
-    0x35080001,
-    0x40885000,
-    0x2408009a,
-    0x40881000,
-    0x25080040,
-    0x40881800,
-    0x42000002,
-    0x24080011,
-    0x40880000,
-    0x3c081000,
-    0x35080001,
-    0x40885000,
-    0x2408011e,
-    0x40881000,
-    0x25080040,
-    0x40881800,
-    0x42000002,
-    0x2408001e,
-    0x40880000,
-    0x3c087fff,
-    0x3508e001,
-    0x40885000,
-    0x2408019e,
-    0x40881000,
-    0x25080040,
-    0x40881800,
-    0x42000002,
-    0x240803e8,
-    0x40885800,
-    0x3c080040,
-    0x40887000,
-    0x34088003,
-    0x40886000,
-    0x42000018,
-];
-
-// The exception vector, from physical 180.
-pub const KERNEL: [u64; 11] = [
-    0x401a6800,
-    0x335a007c,
-    0x1740ffff,
-    0x401b5800,
-    0x277b03e8,
-    0x409b5800,
-    0x3c1a8000,
-    0x8f5b0800,
-    0x277b0001,
-    0xaf5b0800,
-    0x42000018,
-];
+// The end of ROM, from bfc00088.
+pub const START: [u64; 3] = [0x34088003, 0x40886000, 0x42000018];
 
 // The program's first page, from physical 2000.
 pub const USER: [u64; 51] = [

@@ -164,7 +164,7 @@ function cp0_remark(place, value) {
     if (place == 1 || place == 6) return "  slot " value
     if (place == 5) return "  " page_size(mask_size(value))
     if (place == 9 || place == 11) return sprintf("  %.0f", value)
-    if (place == 10) return "  page " hex(value - value % 8192, 8) ", ASID " value % 256
+    if (place == 10) return "  " entry_hi_words(value)
     return ""
 }
 

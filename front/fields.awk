@@ -33,6 +33,11 @@ function page_size(k) {
     return k < 4 ? nth("4 KiB|16 KiB|64 KiB|256 KiB", k) : nth("1 MiB|4 MiB|16 MiB", k - 4)
 }
 
+# EntryHi, without the bits that it does not keep.
+function entry_hi_words(entry_hi) {
+    return "page " hex(entry_hi - entry_hi % 8192, 8) ", ASID " entry_hi % 256
+}
+
 # One half of a slot as a page: virtual range, owner, frame, rights.
 function page_words(mask, entry_hi, lo0, lo1, half, k, size, start, lo, frame) {
     k = mask_size(mask)

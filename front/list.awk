@@ -64,13 +64,14 @@ function register_words(place, value) {
         (decimal(value) == "" ? "" : " (" decimal(value) ")")
 }
 
-# The two words of a RAM frame: physical address, where a program sees it, the instruction, and its characters.
-function list_ram(i, at, value, half, word, instruction) {
+# The two words of a RAM frame: physical address, where a program sees it, whose page it is, the instruction, and its characters.
+function list_ram(i, at, value, half, word, instruction, physical) {
+    physical = number(substr(text[i], 3, 8))
     for (half = 0; half < 2; half++) {
         word = substr(value, 1 + 8 * half, 8)
         instruction = code[layer_of[i] " " hex(at + 4 * half, 8)]
         sub(/^\.word.*/, "", instruction)
-        line = sprintf("RAM %s  at %s  %s  %-4s  %s", hex(number(substr(text[i], 3, 8)) + 4 * half, 8), hex(at + 4 * half, 8), word, \
+        line = sprintf("RAM %s  at %s%s  %s  %-4s  %s", hex(physical + 4 * half, 8), hex(at + 4 * half, 8), space_words(physical), word, \
             characters(word), instruction)
         sub(/ +$/, "", line)
         if (half) print_more(line); else print_words(i, line)
@@ -80,7 +81,8 @@ function list_ram(i, at, value, half, word, instruction) {
 function list_cp0(i, place, value) {
     if (!cp0_is_wide(place))
         value = substr(value, 9)
-    print_words(i, "CP0 " place " " cp0_name(place) " = " value (cp0_drops_writes(place) ? " (dropped: it cannot be written)" : ""))
+    print_words(i, "CP0 " place " " cp0_name(place) " = " value (cp0_drops_writes(place) ? " (dropped: it cannot be written)" : "") \
+        (place == 10 ? " (" entry_hi_words(number(value)) ")" : ""))
     if (place == 12)
         print_more(status_words(number(value)))
 }

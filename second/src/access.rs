@@ -8,12 +8,12 @@ use crate::machine::Machine;
 use crate::memory::Memory;
 
 /// Gives the effective address of a load or store.
-fn effective(machine: &Machine, code: Code) -> VAddr {
+pub(crate) fn effective(machine: &Machine, code: Code) -> VAddr {
     VAddr(machine.gpr[code.rs()].wrapping_add(code.signed()))
 }
 
 /// Gives the number of bytes a load's address must be a multiple of.
-fn load_alignment(load: Load) -> u64 {
+pub(crate) fn load_alignment(load: Load) -> u64 {
     match load {
         Load::Half | Load::HalfUnsigned => 2,
         Load::Word | Load::WordUnsigned | Load::Linked => 4,
@@ -23,7 +23,7 @@ fn load_alignment(load: Load) -> u64 {
 }
 
 /// Gives the number of bytes a store's address must be a multiple of.
-fn store_alignment(store: Store) -> u64 {
+pub(crate) fn store_alignment(store: Store) -> u64 {
     match store {
         Store::Half => 2,
         Store::Word | Store::Conditional => 4,

@@ -15,7 +15,7 @@ pub struct VAddr(pub u64);
 pub struct PAddr(pub u64);
 
 /// What an address is used for.
-#[derive(Clone, Copy, Debug, PartialEq, Eq)]
+#[derive(Clone, Copy, Debug, PartialEq, Eq, PartialOrd, Ord)]
 pub enum Use {
     Fetch,
     Load,

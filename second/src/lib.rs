@@ -31,3 +31,7 @@ mod bench;
 mod destination;
 #[cfg(test)]
 mod divisions;
+#[cfg(test)]
+mod neighbours;
+#[cfg(test)]
+mod reached;

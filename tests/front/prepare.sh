@@ -50,4 +50,5 @@ images() {
   printf '\340\000\000\000\0\0\0\1' >"$T/boot rom"
   printf 'odd' >"$T/odd rom"
   cp "$tests/programs/frames.image" "$T/frames"
+  cp "$tests/programs/spaces.image" "$T/spaces"
 }

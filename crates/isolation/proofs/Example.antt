@@ -1,34 +1,32 @@
 -- The concrete worlds meet every hypothesis of isolation, whatever the other mill's entry is.
-use Prim.Native.Nat.{ℕ, zero, suc, _+_, _*_, _%_, _<_, _≤_}
+use Prim.Native.Nat.{ℕ, zero, suc, _+_, _*_, _<_}
 use native.Mathlib.Omega.{arith}
 use mathlib.Core.Path.{_≡_, refl, sym, _∙_, ap}
-use mathlib.Core.List.{List, [], _∷_, _++_}
+use mathlib.Core.List.{_∷_}
 use mathlib.Core.Bool.{Bool, true, false}
+use mathlib.Core.Logic.{inl}
 use lib.Count.{ones, onesIn, trailingZeros}
 use lib.Dec.{eqb}
 use lib.ListN.{length, getD, replicate, List·getD-append}
-use Rattle.promise.specs.Pick.{pick}
 use Rattle.memory.specs.declared.PAddr.{PAddr}
 use Rattle.tlb.specs.declared.VAddr.{VAddr}
 use Rattle.tlb.specs.declared.Half.{Half}
 use Rattle.tlb.specs.declared.Found.{Found}
 use Rattle.tlb.specs.declared.Found.the-variants.{Absent, One, Many}
-use Rattle.tlb.specs.declared.Where.the-variants.{Mapped, Invalid}
+use Rattle.tlb.specs.declared.Where.the-variants.{Mapped}
 use Rattle.tlb.specs.PageMask.{legalMask, trailingOnes, pageBits}
 use Rattle.tlb.specs.Slot.{slotAt}
-use Rattle.tlb.specs.Match.{lookup}
 use Rattle.tlb.specs.Range.{hiInRange, loInRange, slotInRange, slotsInRange, tlbInRange}
-use Rattle.tlb.specs.Translate.{paddr, oddOf, loOf, halfOf, physical, through, throughSlot, throughFound, mapped}
+use Rattle.tlb.specs.Translate.{paddr, oddOf, loOf, physical, through, throughSlot, throughFound, mapped}
 use Rattle.cp0.specs.Registers as cp0
 use Rattle.cp0.specs.Moves.{builtStatus}
 use Rattle.cp0.specs.Status.{user}
 use Rattle.cp0.specs.Range.{randomInRange, statusInRange, configInRange, entriesInRange, controlInRange, cp0InRange}
 use Rattle.card.specs.Machine.{cpuInRange, inRange}
-use Rattle.card.specs.Run.{Whole, refusalBy, steps}
-use Rattle.isolation.specs.Reach.{Reached}
-use Rattle.isolation.specs.Isolation.{inUser, World, UserWorld, Alike, UserFor, SameRun}
+use Rattle.card.specs.Run.{refusalBy}
+use Rattle.isolation.specs.Isolation.{UserWorld, Alike, SameRun}
 use Rattle.isolation.specs.Example.{userCp0, oneSlot, mill, page, withEntry, world}
-use Rattle.isolation.proofs.Isolation.{isolation, accepted-run}
+use Rattle.isolation.proofs.Isolation.{begins, isolation}
 
 -- ---- what the mill reaches is its page
 
@@ -118,7 +116,10 @@ pub alike : (one other : ℕ) → Alike (world one) (world other)
 unfolding world mill userCp0 cp0.set cp0.fresh
 alike one other =
     record {
-      machine = refl;
+      cpu = refl;
+      cp0 = refl;
+      regs = refl;
+      slots = record { same = λ i h. inl refl };
       lines = refl;
       ram = record {
         long = entry-long one ∙ sym (entry-long other);
@@ -132,13 +133,6 @@ pub differ : (secret : ℕ) → getD (withEntry secret) 4096 0 ≡ secret
 unfolding withEntry page
 differ secret = refl
 
-begins : (secret : ℕ) → UserFor 1 (world secret)
-unfolding steps
-begins secret zero l =
-    let g = accepted-run (world secret) (accepted secret .accepted) 0 in
-    (ap (λ (x : Whole). x .stop) g, ap (λ (x : Whole). inUser (x .machine)) g ∙ accepted secret .user)
-begins secret (suc k) l = let y : ⊥ = omega arith in absurd y
-
 -- and the program that tries to read it runs alike in both
 pub runs-alike : (one other : ℕ) → SameRun (world one) (world other) 1
-runs-alike one other = isolation (world one) (world other) (accepted one) (accepted other) (alike one other) 1 (begins one)
+runs-alike one other = isolation (world one) (world other) (accepted one) (accepted other) (alike one other) 1 (begins (world one) (accepted one))

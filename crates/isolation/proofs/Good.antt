@@ -14,7 +14,6 @@ use Rattle.tlb.specs.declared.VAddr.{VAddr}
 use Rattle.tlb.specs.declared.SlotWrite.the-variants.{Keep}
 use Rattle.tlb.specs.declared.Where.{Where}
 use Rattle.tlb.specs.declared.Where.the-variants.{Mapped, Unmapped, Invalid, Refill, Double, AddressError}
-use Rattle.tlb.specs.declared.Mode.the-variants.{User}
 use Rattle.tlb.specs.Slot.{asidOf}
 use Rattle.cp0.specs.declared.Cp0.{Cp0}
 use Rattle.cp0.specs.declared.Exception.{Exception}
@@ -35,6 +34,8 @@ use Rattle.usability.specs.Ready.{isCp0, isBranch, inPlace, allowed, usable, re
 use Rattle.usability.specs.Doubleword.{isDouble}
 use Rattle.flow.specs.declared.Act.{Act}
 use Rattle.flow.specs.declared.Act.the-variants as act
+use Rattle.execute.specs.declared.Executed.{Executed}
+use Rattle.execute.specs.declared.Executed.the-variants as done
 use Rattle.execute.specs.LoadStore.{storeAlign, goesOut}
 use Rattle.execute.specs.Execute.{execute}
 use Rattle.effect.specs.declared.Cpu.{Cpu}
@@ -73,8 +74,36 @@ pub record Good (cp0 : Cp0) (tlb : List ℕ) (e : Effect) : Type 0 where
 never : {A : Type 0} (b : Bool) → b ≡ true → b ≡ false → A
 never b t f = let z : _≡_ {A = ℕ} 0 1 = cc in absurd (omega arith)
 
+-- it came to an act, and not to a command
+pub data Plainly : Executed → Type 0 where
+  plain : {a : Act} → Plainly (done.Plain a)
+
+-- every instruction but CP0's is plain
+pub plainly : (i : Instr) (pc a b hi lo : ℕ) → isCp0 i ≡ false → Plainly (execute i pc a b hi lo)
+unfolding execute
+plainly (instr.Load op s t o) pc a b hi lo f = plain
+plainly (instr.Store op s t o) pc a b hi lo f = plain
+plainly (instr.Arithmetic op s t d) pc a b hi lo f = plain
+plainly (instr.ArithmeticImmediate op s t n) pc a b hi lo f = plain
+plainly (instr.Logic op s t d) pc a b hi lo f = plain
+plainly (instr.LogicImmediate op s t n) pc a b hi lo f = plain
+plainly (instr.Shift op t d n) pc a b hi lo f = plain
+plainly (instr.ShiftVariable op s t d) pc a b hi lo f = plain
+plainly (instr.Multiply op s t) pc a b hi lo f = plain
+plainly (instr.HiLo op s d) pc a b hi lo f = plain
+plainly (instr.Branch op s t o) pc a b hi lo f = plain
+plainly (instr.Jump op t) pc a b hi lo f = plain
+plainly (instr.JumpRegister op s d) pc a b hi lo f = plain
+plainly (instr.Trap op s t) pc a b hi lo f = plain
+plainly (instr.TrapImmediate op s n) pc a b hi lo f = plain
+plainly (instr.Special op) pc a b hi lo f = plain
+plainly instr.Cache pc a b hi lo f = never true refl f
+plainly (instr.Move op t d) pc a b hi lo f = never true refl f
+plainly (instr.Tlb op) pc a b hi lo f = never true refl f
+plainly instr.Eret pc a b hi lo f = never true refl f
+
 -- where CP0 is locked no CP0 instruction goes on
-goes-plain : (slot : Bool) (d : Decoded) (i : Instr) → ready true false slot d ≡ Go i → isCp0 i ≡ false
+pub goes-plain : (slot : Bool) (d : Decoded) (i : Instr) → ready true false slot d ≡ Go i → isCp0 i ≡ false
 unfolding ready usable allowed inPlace reservedCop0
 goes-plain slot (decoded.Is j) i e = go (isCp0 j) refl (isDouble j) refl (both slot (isBranch j)) refl
   where
@@ -196,33 +225,13 @@ module _ (cpu : Cpu) (cp0 : Cp0) (regs tlb : List ℕ) (u : user (cp0 .status) �
   asked-good value (act.Store op reg at) = saved-good op reg value (storeAlign op) (cpu .link) at _ refl
   asked-good value (act.Raise e) = raised-good e
 
-  -- every instruction but CP0's is plain
-  executed-good : (i : Instr) (lines value a b : ℕ) → isCp0 i ≡ false → Good cp0 tlb (executed cpu cp0 tlb look lines value (execute i (cpu .pc) a b (cpu .hi) (cpu .lo)))
-  unfolding executed execute
-  executed-good (instr.Load op s t o) lines value a b f = asked-good value _
-  executed-good (instr.Store op s t o) lines value a b f = asked-good value _
-  executed-good (instr.Arithmetic op s t d) lines value a b f = asked-good value _
-  executed-good (instr.ArithmeticImmediate op s t n) lines value a b f = asked-good value _
-  executed-good (instr.Logic op s t d) lines value a b f = asked-good value _
-  executed-good (instr.LogicImmediate op s t n) lines value a b f = asked-good value _
-  executed-good (instr.Shift op t d n) lines value a b f = asked-good value _
-  executed-good (instr.ShiftVariable op s t d) lines value a b f = asked-good value _
-  executed-good (instr.Multiply op s t) lines value a b f = asked-good value _
-  executed-good (instr.HiLo op s d) lines value a b f = asked-good value _
-  executed-good (instr.Branch op s t o) lines value a b f = asked-good value _
-  executed-good (instr.Jump op t) lines value a b f = asked-good value _
-  executed-good (instr.JumpRegister op s d) lines value a b f = asked-good value _
-  executed-good (instr.Trap op s t) lines value a b f = asked-good value _
-  executed-good (instr.TrapImmediate op s n) lines value a b f = asked-good value _
-  executed-good (instr.Special op) lines value a b f = asked-good value _
-  executed-good instr.Cache lines value a b f = never true refl f
-  executed-good (instr.Move op t d) lines value a b f = never true refl f
-  executed-good (instr.Tlb op) lines value a b f = never true refl f
-  executed-good instr.Eret lines value a b f = never true refl f
+  executed-good : (lines value : ℕ) (x : Executed) → Plainly x → Good cp0 tlb (executed cpu cp0 tlb look lines value x)
+  unfolding executed
+  executed-good lines value (done.Plain a) plain = asked-good value a
 
   readied-good : (lines w : ℕ) (x : Ready) → ready true false (cpu .slot) (decode w) ≡ x → Good cp0 tlb (readied cpu cp0 regs tlb look lines w x)
   unfolding readied
-  readied-good lines w (Go i) e = executed-good i lines _ _ _ (goes-plain (cpu .slot) (decode w) i e)
+  readied-good lines w (Go i) e = executed-good lines _ _ (plainly i _ _ _ _ _ (goes-plain (cpu .slot) (decode w) i e))
   readied-good lines w (Unusable n) e = raised-good _
   readied-good lines w Reserved e = raised-good _
   readied-good lines w InSlot e = stopped-good _

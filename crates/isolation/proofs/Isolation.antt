@@ -1,19 +1,23 @@
 -- Isolation and confinement of the card's run, by induction over its steps.
-use Prim.Native.Nat.{ℕ, zero, suc, _+_, _<_}
+use Prim.Native.Nat.{ℕ, zero, suc, _+_, _<_, _≤_}
 use native.Mathlib.Omega.{arith}
-use mathlib.Core.Path.{_≡_, refl, sym, _∙_, ap, subst₂}
+use mathlib.Core.Path.{_≡_, refl, sym, _∙_, ap, subst, subst₂}
 use mathlib.Core.List.{List}
 use mathlib.Core.Bool.{Bool, true, false}
 use lib.Dec.{eqb}
-use Rattle.promise.specs.Pick.{pick}
 use Rattle.memory.specs.Memory.{romBase}
-use Rattle.cp0.specs.Status.{CU0}
+use Rattle.tlb.specs.Slot.{asidOf}
+use Rattle.cp0.specs.declared.Cp0.{Cp0}
+use Rattle.cp0.specs.Status.{CU0, user}
 use Rattle.card.specs.declared.Machine.{Machine}
-use Rattle.card.specs.Step.{Out, stepOf}
+use Rattle.card.specs.Machine.{machine}
+use Rattle.card.specs.Step.{stepOf}
 use Rattle.card.specs.Run.{Whole, whole, plus, following, refusal, steps, runOf}
 use Rattle.isolation.specs.Reach.{SameReached, OnlyDirtyChanged}
-use Rattle.isolation.specs.Isolation.{inUser, asid, World, run, UserWorld, Alike, UserFor, SameRun, Isolation, Confinement}
-use Rattle.isolation.proofs.Step.{SameOut, step-same, step-kept, step-stays}
+use Rattle.isolation.specs.Neighbour.{SameSlots}
+use Rattle.isolation.specs.Isolation.{inUser, asid, World, run, UserWorld, UserFor, SameRun, Isolation, Confinement, Still, Turned, SameSpan}
+use Rattle.isolation.proofs.Step.{SameOut, withTlb, outWith, step-same, step-kept, step-tlb, step-asid, step-locked, step-swap}
+use Rattle.isolation.proofs.Neighbour.{turned-slots, reached-by}
 
 -- ---- steps
 
@@ -46,15 +50,15 @@ starts : (rom : List ℕ) (lines n : ℕ) (m : Machine) (s : List ℕ) → UserS
 unfolding steps
 starts rom lines n m s U = U 0 (omega arith) .1
 
--- while it is in User mode a machine has this TLB and ASID, and CU0 is clear
+-- a machine has this TLB and ASID, and while it is in User mode CU0 is clear
 abbrev Views : List ℕ → ℕ → Machine → Type 0
-Views tlb a m = inUser m ≡ true → (m .tlb ≡ tlb) × (asid m ≡ a) × (CU0 (m .cp0 .status) ≡ false)
+Views tlb a m = (m .tlb ≡ tlb) × (asid m ≡ a) × (inUser m ≡ true → CU0 (m .cp0 .status) ≡ false)
 
 views-next : (tlb : List ℕ) (a : ℕ) (rom : List ℕ) (lines : ℕ) (m : Machine) (s : List ℕ) → inUser m ≡ true → Views tlb a m → Views tlb a (stepOf m s rom lines .machine)
-views-next tlb a rom lines m s u Q v =
-    let x = Q u in
-    let y = step-stays lines m u (x .2) s rom v in
-    (y .0 ∙ x .0, y .1 ∙ x .1, y .2)
+views-next tlb a rom lines m s u Q = (step-tlb lines m u l s rom ∙ Q .0, step-asid lines m u l s rom ∙ Q .1, step-locked lines m u l s rom)
+  where
+    l : CU0 (m .cp0 .status) ≡ false
+    l = Q .2 u
 
 -- what two runs have in common that a User program cannot tell apart
 record SameWhole (tlb : List ℕ) (a : ℕ) (w₁ w₂ : Whole) : Type 0 where
@@ -71,11 +75,10 @@ module _ (tlb : List ℕ) (a : ℕ) (rom₁ rom₂ : List ℕ) (lines : ℕ) (B 
   first-same : (m : Machine) (s₁ s₂ : List ℕ) → inUser m ≡ true → Views tlb a m → SameReached tlb a 0 s₁ s₂
       → SameOut tlb a (stepOf m s₁ rom₁ lines) (stepOf m s₂ rom₂ lines)
   first-same m s₁ s₂ u Q A =
-      let x = Q u in
-      subst₂ (λ (t : List ℕ) (b : ℕ). SameOut t b (stepOf m s₁ rom₁ lines) (stepOf m s₂ rom₂ lines)) (x .0) (x .1)
+      subst₂ (λ (t : List ℕ) (b : ℕ). SameOut t b (stepOf m s₁ rom₁ lines) (stepOf m s₂ rom₂ lines)) (Q .0) (Q .1)
       (step-same lines m u s₁ s₂ rom₁ rom₂
-      (subst₂ (λ (t : List ℕ) (b : ℕ). SameReached t b 0 s₁ s₂) (sym (x .0)) (sym (x .1)) A)
-      (subst₂ (λ (t : List ℕ) (b : ℕ). SameReached t b romBase rom₁ rom₂) (sym (x .0)) (sym (x .1)) B))
+      (subst₂ (λ (t : List ℕ) (b : ℕ). SameReached t b 0 s₁ s₂) (sym (Q .0)) (sym (Q .1)) A)
+      (subst₂ (λ (t : List ℕ) (b : ℕ). SameReached t b romBase rom₁ rom₂) (sym (Q .0)) (sym (Q .1)) B))
 
   -- a step, and the rest if it goes on
   and-rest : (n : ℕ) (m : Machine) (s₁ s₂ : List ℕ) → SameOut tlb a (stepOf m s₁ rom₁ lines) (stepOf m s₂ rom₂ lines)
@@ -101,33 +104,60 @@ module _ (tlb : List ℕ) (a : ℕ) (rom₁ rom₂ : List ℕ) (lines : ℕ) (B 
       let S = first-same m s₁ s₂ u Q A in
       and-rest n m s₁ s₂ S (λ e. steps-same n _ _ _ (views-next tlb a rom₁ lines m s₁ u Q) (S .ram) (later rom₁ lines n m s₁ e U))
 
+-- what a User program leaves of what it started with
+record Kept (tlb : List ℕ) (a : ℕ) (s : List ℕ) (w : Whole) : Type 0 where
+  views : Views tlb a (w .machine)
+  ram : OnlyDirtyChanged tlb a s (w .ram)
+
 kept-trans : {tlb : List ℕ} {a : ℕ} {l₁ l₂ l₃ : List ℕ} → OnlyDirtyChanged tlb a l₁ l₂ → OnlyDirtyChanged tlb a l₂ l₃ → OnlyDirtyChanged tlb a l₁ l₃
 kept-trans f g = record { long = g .long ∙ f .long; same = λ k n. g .same k n ∙ f .same k n }
 
 module _ (tlb : List ℕ) (a : ℕ) (rom : List ℕ) (lines : ℕ) where
-  and-rest-kept : (n : ℕ) (m : Machine) (s : List ℕ) → OnlyDirtyChanged tlb a s (stepOf m s rom lines .ram)
-      → (eqb (stepOf m s rom lines .stop) 0 ≡ true → OnlyDirtyChanged tlb a (stepOf m s rom lines .ram) (steps rom lines n (stepOf m s rom lines .machine) (stepOf m s rom lines .ram) .ram))
-      → OnlyDirtyChanged tlb a s (steps rom lines (suc n) m s .ram)
-  and-rest-kept n m s K rest = go (eqb (stepOf m s rom lines .stop) 0) refl
+  and-rest-kept : (n : ℕ) (m : Machine) (s : List ℕ) → Views tlb a (stepOf m s rom lines .machine) → OnlyDirtyChanged tlb a s (stepOf m s rom lines .ram)
+      → (eqb (stepOf m s rom lines .stop) 0 ≡ true → Kept tlb a (stepOf m s rom lines .ram) (steps rom lines n (stepOf m s rom lines .machine) (stepOf m s rom lines .ram)))
+      → Kept tlb a s (steps rom lines (suc n) m s)
+  and-rest-kept n m s Q K rest = go (eqb (stepOf m s rom lines .stop) 0) refl
     where
-      go : (b : Bool) → eqb (stepOf m s rom lines .stop) 0 ≡ b → OnlyDirtyChanged tlb a s (steps rom lines (suc n) m s .ram)
-      go true e = rw (goes-on rom lines n m s e) (kept-trans K (rest e))
-      go false e = rw (stops rom lines n m s e) K
+      go : (b : Bool) → eqb (stepOf m s rom lines .stop) 0 ≡ b → Kept tlb a s (steps rom lines (suc n) m s)
+      go true e = let r = rest e in rw (goes-on rom lines n m s e) (record { views = r .views; ram = kept-trans K (r .ram) })
+      go false e = rw (stops rom lines n m s e) (record { views = Q; ram = K })
 
-  steps-kept : (n : ℕ) (m : Machine) (s : List ℕ) → Views tlb a m → UserSteps rom lines n m s → OnlyDirtyChanged tlb a s (steps rom lines n m s .ram)
+  steps-kept : (n : ℕ) (m : Machine) (s : List ℕ) → Views tlb a m → UserSteps rom lines n m s → Kept tlb a s (steps rom lines n m s)
   unfolding steps
-  steps-kept zero m s Q U = record { long = refl; same = λ k n. refl }
+  steps-kept zero m s Q U = record { views = Q; ram = record { long = refl; same = λ k n. refl } }
   steps-kept (suc n) m s Q U =
       let u = starts rom lines n m s U in
-      let x = Q u in
-      and-rest-kept n m s
-      (subst₂ (λ (t : List ℕ) (b : ℕ). OnlyDirtyChanged t b s (stepOf m s rom lines .ram)) (x .0) (x .1) (step-kept lines m u (x .2) s rom))
-      (λ e. steps-kept n _ _ (views-next tlb a rom lines m s u Q) (later rom lines n m s e U))
+      let next = views-next tlb a rom lines m s u Q in
+      and-rest-kept n m s next
+      (subst₂ (λ (t : List ℕ) (b : ℕ). OnlyDirtyChanged t b s (stepOf m s rom lines .ram)) (Q .0) (Q .1) (step-kept lines m u (Q .2 u) s rom))
+      (λ e. steps-kept n _ _ next (later rom lines n m s e U))
+
+-- ---- a neighbour's slots
+
+-- a run's end with another TLB
+abbrev swapped : List ℕ → Whole → Whole
+swapped t w = whole (withTlb (w .machine) t) (w .ram) (w .steps) (w .stop)
+
+module _ (tlb : List ℕ) (a : ℕ) (rom : List ℕ) (lines : ℕ) where
+  steps-swap : (t : List ℕ) → SameSlots a tlb t → (n : ℕ) (m : Machine) (s : List ℕ) → Views tlb a m → UserSteps rom lines n m s
+      → steps rom lines n (withTlb m t) s ≡ swapped t (steps rom lines n m s)
+  unfolding steps
+  steps-swap t S zero m s Q U = refl
+  steps-swap t S (suc n) m s Q U =
+      let u = starts rom lines n m s U in
+      let e = step-swap lines m u (Q .2 u) s rom t (subst₂ (λ (l : List ℕ) (b : ℕ). SameSlots b l t) (sym (Q .0)) (sym (Q .1)) S) in
+      rw e (go (λ g. steps-swap t S n (stepOf m s rom lines .machine) (stepOf m s rom lines .ram) (views-next tlb a rom lines m s u Q) (later rom lines n m s g U)) (eqb (stepOf m s rom lines .stop) 0) refl)
+    where
+      go : (eqb (stepOf m s rom lines .stop) 0 ≡ true → steps rom lines n (withTlb (stepOf m s rom lines .machine) t) (stepOf m s rom lines .ram) ≡ swapped t (steps rom lines n (stepOf m s rom lines .machine) (stepOf m s rom lines .ram)))
+          → (b : Bool) → eqb (stepOf m s rom lines .stop) 0 ≡ b
+          → following (outWith (stepOf m s rom lines) t) (steps rom lines n (withTlb (stepOf m s rom lines .machine) t) (stepOf m s rom lines .ram)) ≡ swapped t (following (stepOf m s rom lines) (steps rom lines n (stepOf m s rom lines .machine) (stepOf m s rom lines .ram)))
+      go rest true e = rw (e, rest e) refl
+      go rest false e = rw e refl
 
 -- ---- the run
 
 -- an accepted run is its steps
-pub accepted-run : (w : World) → refusal (w .machine) (w .ram) (w .rom) (w .lines) ≡ 0 → (n : ℕ) → run w n ≡ steps (w .rom) (w .lines) n (w .machine) (w .ram)
+accepted-run : (w : World) → refusal (w .machine) (w .ram) (w .rom) (w .lines) ≡ 0 → (n : ℕ) → run w n ≡ steps (w .rom) (w .lines) n (w .machine) (w .ram)
 unfolding runOf
 accepted-run w r n = rw r
 
@@ -138,28 +168,102 @@ user-steps w r n U k l =
     (ap (λ (x : Whole). x .stop) (sym g) ∙ u .0, ap (λ (x : Whole). inUser (x .machine)) (sym g) ∙ u .1)
 
 starts-viewed : (w : World) → UserWorld w → Views (w .machine .tlb) (asid (w .machine)) (w .machine)
-starts-viewed w W u = (refl, refl, W .locked)
+starts-viewed w W = (refl, refl, λ u. W .locked)
+
+-- a first step begins in User mode
+pub begins : (w : World) → UserWorld w → UserFor 1 w
+unfolding steps
+begins w W zero l =
+    let g = accepted-run w (W .accepted) 0 in
+    (ap (λ (x : Whole). x .stop) g, ap (λ (x : Whole). inUser (x .machine)) g ∙ W .user)
+begins w W (suc k) l = let y : ⊥ = omega arith in absurd y
+
+-- what it keeps of its world
+kept : (w : World) → UserWorld w → (n : ℕ) → UserFor n w → Kept (w .machine .tlb) (asid (w .machine)) (w .ram) (run w n)
+kept w W n U =
+    rw (accepted-run w (W .accepted) n)
+    (steps-kept (w .machine .tlb) (asid (w .machine)) (w .rom) (w .lines) n (w .machine) (w .ram) (starts-viewed w W) (user-steps w (W .accepted) n U))
 
 pub isolation : Isolation
-isolation w₁ w₂ W₁ W₂ A n U =
-    whole-run (accepted-run w₂ (W₂ .accepted) n ∙ (λ i. steps (w₂ .rom) (sym (A .lines) i) n (sym (A .machine) i) (w₂ .ram)))
+isolation w₁ w₂ W₁ W₂ A n U = together (accepted-run w₁ (W₁ .accepted) n) run₂
   where
-    S : SameWhole (w₁ .machine .tlb) (asid (w₁ .machine)) (steps (w₁ .rom) (w₁ .lines) n (w₁ .machine) (w₁ .ram)) (steps (w₂ .rom) (w₁ .lines) n (w₁ .machine) (w₂ .ram))
-    S =
-        steps-same (w₁ .machine .tlb) (asid (w₁ .machine)) (w₁ .rom) (w₂ .rom) (w₁ .lines) (A .rom) n (w₁ .machine) (w₁ .ram) (w₂ .ram)
-        (starts-viewed w₁ W₁) (A .ram) (user-steps w₁ (W₁ .accepted) n U)
+    m : Machine
+    m = w₁ .machine
 
-    whole-run : run w₂ n ≡ steps (w₂ .rom) (w₁ .lines) n (w₁ .machine) (w₂ .ram) → SameRun w₁ w₂ n
-    whole-run e =
-        let d = accepted-run w₁ (W₁ .accepted) n in
+    t : List ℕ
+    t = w₂ .machine .tlb
+
+    views : Views (m .tlb) (asid m) m
+    views = starts-viewed w₁ W₁
+
+    U₁ : UserSteps (w₁ .rom) (w₁ .lines) n m (w₁ .ram)
+    U₁ = user-steps w₁ (W₁ .accepted) n U
+
+    -- the first machine with either memory
+    S : (k : ℕ) → k ≤ n → SameWhole (m .tlb) (asid m) (steps (w₁ .rom) (w₁ .lines) k m (w₁ .ram)) (steps (w₂ .rom) (w₁ .lines) k m (w₂ .ram))
+    S k h =
+        steps-same (m .tlb) (asid m) (w₁ .rom) (w₂ .rom) (w₁ .lines) (A .rom) k m (w₁ .ram) (w₂ .ram) views (A .ram)
+        (λ j l. U₁ j (omega arith))
+
+    U₂ : UserSteps (w₂ .rom) (w₁ .lines) n m (w₂ .ram)
+    U₂ k l =
+        let x = S k (omega arith) in
+        let y = U₁ k l in
+        (sym (x .stop) ∙ y .0, ap inUser (sym (x .machine)) ∙ y .1)
+
+    -- the second machine is the first with its own slots
+    run₂ : run w₂ n ≡ swapped t (steps (w₂ .rom) (w₁ .lines) n m (w₂ .ram))
+    run₂ =
+        accepted-run w₂ (W₂ .accepted) n
+        ∙ (λ i. steps (w₂ .rom) (sym (A .lines) i) n (machine (sym (A .cpu) i) (sym (A .cp0) i) (sym (A .regs) i) t) (w₂ .ram))
+        ∙ steps-swap (m .tlb) (asid m) (w₂ .rom) (w₁ .lines) t (A .slots) n m (w₂ .ram) views U₂
+
+    own₁ : run w₁ n .machine .tlb ≡ m .tlb
+    own₁ = kept w₁ W₁ n U .views .0
+
+    own₂ : run w₂ n .machine .tlb ≡ t
+    own₂ = rw run₂ refl
+
+    together : run w₁ n ≡ steps (w₁ .rom) (w₁ .lines) n m (w₁ .ram) → run w₂ n ≡ swapped t (steps (w₂ .rom) (w₁ .lines) n m (w₂ .ram)) → SameRun w₁ w₂ n
+    together d e =
+        let x = S n (omega arith) in
         record {
-          machine = rw (d, e) (S .machine);
-          steps = rw (d, e) (S .steps);
-          stop = rw (d, e) (S .stop);
-          ram = rw (d, e) (S .ram);
+          cpu = rw (d, e) (ap (λ (m : Machine). m .cpu) (x .machine));
+          cp0 = rw (d, e) (ap (λ (m : Machine). m .cp0) (x .machine));
+          regs = rw (d, e) (ap (λ (m : Machine). m .regs) (x .machine));
+          slots = subst₂ (SameSlots (asid m)) (sym own₁) (sym own₂) (A .slots);
+          own₁ = own₁;
+          own₂ = own₂;
+          steps = rw (d, e) (x .steps);
+          stop = rw (d, e) (x .stop);
+          ram = rw (d, e) (x .ram);
         }
 
 pub confinement : Confinement
-confinement w W n U =
-    rw (accepted-run w (W .accepted) n)
-    (steps-kept (w .machine .tlb) (asid (w .machine)) (w .rom) (w .lines) n (w .machine) (w .ram) (starts-viewed w W) (user-steps w (W .accepted) n U))
+confinement w W n U = kept w W n U .ram
+
+pub still : Still
+still w W n U = let v = kept w W n U .views in (v .0, v .1)
+
+-- ---- either first
+
+same-turned : {tlb₁ tlb₂ : List ℕ} {a base : ℕ} {l₁ l₂ : List ℕ} → SameSlots a tlb₁ tlb₂ → SameReached tlb₁ a base l₁ l₂ → SameReached tlb₂ a base l₂ l₁
+same-turned {base = base} S A = record { long = sym (A .long); same = λ k r. sym (A .same k (reached-by (turned-slots S) (base + k) r)) }
+
+pub turned : Turned
+turned w₁ w₂ A =
+    record {
+      cpu = sym (A .cpu);
+      cp0 = sym (A .cp0);
+      regs = sym (A .regs);
+      slots = subst (λ (c : Cp0). SameSlots (asidOf (c .entryhi)) (w₂ .machine .tlb) (w₁ .machine .tlb)) (A .cp0) (turned-slots (A .slots));
+      lines = sym (A .lines);
+      ram = subst (λ (c : Cp0). SameReached (w₂ .machine .tlb) (asidOf (c .entryhi)) 0 (w₂ .ram) (w₁ .ram)) (A .cp0) (same-turned (A .slots) (A .ram));
+      rom = subst (λ (c : Cp0). SameReached (w₂ .machine .tlb) (asidOf (c .entryhi)) romBase (w₂ .rom) (w₁ .rom)) (A .cp0) (same-turned (A .slots) (A .rom));
+    }
+
+pub same-span : SameSpan
+same-span w₁ w₂ W₁ W₂ A n U k l =
+    let S = isolation w₁ w₂ W₁ W₂ A k (λ j h. U j (omega arith)) in
+    let u = U k l in
+    (sym (S .stop) ∙ u .0, ap (λ (c : Cp0). user (c .status)) (sym (S .cp0)) ∙ u .1)

@@ -1,7 +1,11 @@
 pub mod Near
+pub mod Means
 pub mod Same
 pub mod Good
+pub mod Neighbour
 pub mod Step
 pub mod Isolation
+pub mod OneMachine
 pub mod Example
-pub mod Caught
+pub mod Computed
+pub mod Shared

@@ -1,7 +1,7 @@
 -- Where a User address leads is reached, and so are the neighbours of the same eight bytes.
-use Prim.Native.Nat.{ℕ, _*_, _/_, _%_, _+_, _<_, _^_}
+use Prim.Native.Nat.{ℕ, _*_, _/_, _%_, _+_}
 use native.Mathlib.Omega.{arith}
-use mathlib.Core.Path.{_≡_, refl, sym, _∙_, ap}
+use mathlib.Core.Path.{_≡_, sym, _∙_, ap}
 use mathlib.Core.List.{List}
 use mathlib.Core.Bool.{true}
 use Rattle.memory.specs.declared.PAddr.{PAddr}
@@ -11,7 +11,7 @@ use Rattle.tlb.specs.declared.Mode.{Mode}
 use Rattle.tlb.specs.declared.Mode.the-variants.{User}
 use Rattle.tlb.specs.declared.Where.{Where}
 use Rattle.tlb.specs.declared.Where.the-variants.{Mapped, Unmapped}
-use Rattle.tlb.specs.Translate.{vaddr, paddr, mapped}
+use Rattle.tlb.specs.Translate.{vaddr, paddr}
 use Rattle.tlb.specs.Segments.{translate}
 use Rattle.tlb.proofs.Near.{mapped-eight}
 use Rattle.tlb.proofs.UserMap.{user-mapped, user-not-unmapped}

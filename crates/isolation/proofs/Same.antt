@@ -10,7 +10,6 @@ use Rattle.tlb.specs.declared.VAddr.{VAddr}
 use Rattle.tlb.specs.declared.Half.{Half}
 use Rattle.tlb.specs.declared.Where.{Where}
 use Rattle.tlb.specs.declared.Where.the-variants.{Mapped, Unmapped, Invalid, Refill, Double, AddressError}
-use Rattle.tlb.specs.declared.Mode.the-variants.{User}
 use Rattle.tlb.specs.Slot.{asidOf}
 use Rattle.tlb.specs.Translate.{vaddr}
 use Rattle.cp0.specs.declared.Cp0.{Cp0}

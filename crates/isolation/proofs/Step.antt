@@ -1,16 +1,13 @@
 -- One step of a User program: two worlds that it cannot tell apart stay so, and only what it may store to changes.
-use Prim.Native.Nat.{ℕ, _+_, _-_, _*_, _/_, _%_, _<_, _≤_, _^_}
-use native.Mathlib.Decide.{decLt}
+use Prim.Native.Nat.{ℕ, _+_, _-_, _*_, _/_, _%_, _≤_}
 use native.Mathlib.Omega.{arith}
 use mathlib.Core.Path.{_≡_, refl, sym, _∙_, ap}
 use mathlib.Core.List.{List}
 use mathlib.Core.Bool.{Bool, true, false}
-use lib.Dec.{eqb, leb, ltb}
-use lib.ListN.{length, getD}
-use borrow.Author.Tests.{eq-eqb, leb-true, ltb-true}
-use Rattle.promise.specs.Pick.{pick, both}
+use lib.Dec.{leb}
+use lib.ListN.{getD}
+use borrow.Author.Tests.{leb-true}
 use Rattle.memory.specs.declared.PAddr.{PAddr}
-use Rattle.memory.specs.declared.Eight.{Eight}
 use Rattle.memory.specs.declared.Store.{Store}
 use Rattle.memory.specs.declared.Store.the-variants.{Nowhere, Write}
 use Rattle.memory.specs.Memory.{romBase, inRam, read}
@@ -21,23 +18,25 @@ use Rattle.tlb.specs.declared.SlotWrite.{SlotWrite}
 use Rattle.tlb.specs.declared.SlotWrite.the-variants.{Keep}
 use Rattle.tlb.specs.Slot.{asidOf, putSlot}
 use Rattle.cp0.specs.declared.Cp0.{Cp0}
-use Rattle.cp0.specs.declared.Exception.{Exception}
 use Rattle.cp0.specs.Registers.{linked}
 use Rattle.cp0.specs.Status.{CU0, user}
 use Rattle.cp0.specs.Exceptions.{entered}
 use Rattle.cp0.specs.Tick.{ended}
-use Rattle.cp0.proofs.Modes.{entered-not-user, ended-status, ended-entryhi, linked-status, linked-entryhi}
+use Rattle.cp0.proofs.Modes.{entered-not-user, entered-asid, ended-status, ended-entryhi, linked-status, linked-entryhi}
 use Rattle.access.specs.declared.Turn.{Turn}
 use Rattle.access.specs.declared.Turn.the-variants as turn
 use Rattle.access.specs.declared.Effect.{Effect}
 use Rattle.effect.specs.Step.{effectOf}
 use Rattle.effect.specs.After.{cp0After}
 use Rattle.card.specs.declared.Machine.{Machine}
-use Rattle.card.specs.Step.{Out, apply, stepOf}
+use Rattle.card.specs.Machine.{machine}
+use Rattle.card.specs.Step.{Out, out, apply, stepOf}
 use Rattle.isolation.specs.Reach.{Reached, ReachedDirty, SameReached, OnlyDirtyChanged}
+use Rattle.isolation.specs.Neighbour.{SameSlots}
 use Rattle.isolation.specs.Isolation.{inUser, asid}
 use Rattle.isolation.proofs.Near.{reached-near, dirty-near}
 use Rattle.isolation.proofs.Same.{effect-same}
+use Rattle.isolation.proofs.Neighbour.{effect-swap}
 use Rattle.isolation.proofs.Good.{Calm, Confined, Good, effect-good}
 use Rattle.isolation.proofs.Good.Calm.{next, branch, skip, hilo, link, enter, stay}
 use Rattle.isolation.proofs.Good.Confined.{nowhere, within}
@@ -86,24 +85,30 @@ stored-kept tlb a ram s c = record { long = length-put ram s; same = λ k n. unc
 
 -- ---- CP0
 
--- a calm turn that ends in User mode leaves Status and EntryHi
-record Stays (c c′ : Cp0) : Type 0 where
-  pub status : c′ .status ≡ c .status
-  pub entryhi : c′ .entryhi ≡ c .entryhi
-
-calm-stays : (pc : ℕ) (slot : Bool) (c : Cp0) (t : Turn) → Calm t → user (cp0After pc slot c t .status) ≡ true → Stays c (cp0After pc slot c t)
+-- a calm turn that ends in User mode leaves Status
+calm-status : (pc : ℕ) (slot : Bool) (c : Cp0) (t : Turn) → Calm t → user (cp0After pc slot c t .status) ≡ true → cp0After pc slot c t .status ≡ c .status
 unfolding cp0After
-calm-stays pc slot c turn.Next next u = record { status = ended-status false c; entryhi = ended-entryhi false c }
-calm-stays pc slot c (turn.Branch to) branch u = record { status = ended-status false c; entryhi = ended-entryhi false c }
-calm-stays pc slot c turn.Skip skip u = record { status = ended-status false c; entryhi = ended-entryhi false c }
-calm-stays pc slot c (turn.HiLo hi lo) hilo u = record { status = ended-status false c; entryhi = ended-entryhi false c }
-calm-stays pc slot c (turn.Link p) link u =
-    record { status = ended-status false (linked c p) ∙ linked-status c p; entryhi = ended-entryhi false (linked c p) ∙ linked-entryhi c p }
-calm-stays pc slot c (turn.Enter e) enter u =
+calm-status pc slot c turn.Next next u = ended-status false c
+calm-status pc slot c (turn.Branch to) branch u = ended-status false c
+calm-status pc slot c turn.Skip skip u = ended-status false c
+calm-status pc slot c (turn.HiLo hi lo) hilo u = ended-status false c
+calm-status pc slot c (turn.Link p) link u = ended-status false (linked c p) ∙ linked-status c p
+calm-status pc slot c (turn.Enter e) enter u =
     let f : user (ended false (entered c pc slot e) .status) ≡ false = rw (ended-status false (entered c pc slot e)) (entered-not-user c pc slot e) in
     let z : _≡_ {A = ℕ} 0 1 = cc in
     absurd (omega arith)
-calm-stays pc slot c turn.Stay stay u = record { status = refl; entryhi = refl }
+calm-status pc slot c turn.Stay stay u = refl
+
+-- and whether it does or not, the ASID
+calm-asid : (pc : ℕ) (slot : Bool) (c : Cp0) (t : Turn) → Calm t → asidOf (cp0After pc slot c t .entryhi) ≡ asidOf (c .entryhi)
+unfolding cp0After
+calm-asid pc slot c turn.Next next = ap asidOf (ended-entryhi false c)
+calm-asid pc slot c (turn.Branch to) branch = ap asidOf (ended-entryhi false c)
+calm-asid pc slot c turn.Skip skip = ap asidOf (ended-entryhi false c)
+calm-asid pc slot c (turn.HiLo hi lo) hilo = ap asidOf (ended-entryhi false c)
+calm-asid pc slot c (turn.Link p) link = ap asidOf (ended-entryhi false (linked c p) ∙ linked-entryhi c p)
+calm-asid pc slot c (turn.Enter e) enter = ap asidOf (ended-entryhi false (entered c pc slot e)) ∙ entered-asid c pc slot e
+calm-asid pc slot c turn.Stay stay = refl
 
 -- ---- a step
 
@@ -121,6 +126,14 @@ apply-same : {tlb : List ℕ} {a : ℕ} {ram₁ ram₂ : List ℕ} (m : Machine)
 unfolding apply
 apply-same m e A = record { machine = refl; stop = refl; ram = stored-same (e .store) A }
 
+-- a machine with another TLB
+abbrev pub withTlb : Machine → List ℕ → Machine
+withTlb m t = machine (m .cpu) (m .cp0) (m .regs) t
+
+-- an outcome with another TLB
+abbrev pub outWith : Out → List ℕ → Out
+outWith o t = out (withTlb (o .machine) t) (o .ram) (o .stop)
+
 module _ (lines : ℕ) (m : Machine) (u : inUser m ≡ true) where
   pub step-same : (ram₁ ram₂ rom₁ rom₂ : List ℕ) → SameReached (m .tlb) (asid m) 0 ram₁ ram₂ → SameReached (m .tlb) (asid m) romBase rom₁ rom₂
       → SameOut (m .tlb) (asid m) (stepOf m ram₁ rom₁ lines) (stepOf m ram₂ rom₂ lines)
@@ -137,10 +150,22 @@ module _ (lines : ℕ) (m : Machine) (u : inUser m ≡ true) where
     unfolding stepOf apply
     step-kept = stored-kept (m .tlb) (asid m) ram _ (good .store)
 
-    -- while it is in User mode the TLB, the ASID and CU0 stay
-    pub step-stays : inUser (stepOf m ram rom lines .machine) ≡ true
-        → (stepOf m ram rom lines .machine .tlb ≡ m .tlb) × (asid (stepOf m ram rom lines .machine) ≡ asid m) × (CU0 (stepOf m ram rom lines .machine .cp0 .status) ≡ false)
+    -- the TLB and the ASID stay, whether it leaves User mode or not
+    pub step-tlb : stepOf m ram rom lines .machine .tlb ≡ m .tlb
     unfolding stepOf apply
-    step-stays v =
-        let s = calm-stays (m .cpu .pc) (m .cpu .slot) (m .cp0) _ (good .turn) v in
-        (kept-slot (m .tlb) (good .slot), ap asidOf (s .entryhi), ap CU0 (s .status) ∙ l)
+    step-tlb = kept-slot (m .tlb) (good .slot)
+
+    pub step-asid : asid (stepOf m ram rom lines .machine) ≡ asid m
+    unfolding stepOf apply
+    step-asid = calm-asid (m .cpu .pc) (m .cpu .slot) (m .cp0) _ (good .turn)
+
+    -- while it is in User mode CU0 stays too
+    pub step-locked : inUser (stepOf m ram rom lines .machine) ≡ true → CU0 (stepOf m ram rom lines .machine .cp0 .status) ≡ false
+    unfolding stepOf apply
+    step-locked v = ap CU0 (calm-status (m .cpu .pc) (m .cpu .slot) (m .cp0) _ (good .turn) v) ∙ l
+
+    -- a step with a neighbour's slots changed is the same step
+    pub step-swap : (t : List ℕ) → SameSlots (asid m) (m .tlb) t → stepOf (withTlb m t) ram rom lines ≡ outWith (stepOf m ram rom lines) t
+    unfolding stepOf apply
+    step-swap t S =
+        rw (← effect-swap (m .cpu) (m .cp0) (m .regs) (m .tlb) t u l (read ram rom) S lines, kept-slot t (good .slot)) refl

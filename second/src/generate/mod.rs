@@ -5,6 +5,8 @@ mod program;
 mod random;
 mod texts;
 mod values;
+#[cfg(test)]
+mod worlds;
 
 use crate::many::Image;
 use random::Random;
@@ -37,6 +39,7 @@ mod tests {
     use crate::divisions::{all_by_zero, by_zero};
     use crate::instruction::{Code, Instruction};
     use crate::many::{join, split};
+    use crate::neighbours::met;
     use std::collections::{BTreeMap, BTreeSet};
 
     #[test]
@@ -99,6 +102,21 @@ mod tests {
             }
         }
         assert!(counts.values().all(|count| *count > 4000 / 100), "{counts:?}");
+    }
+
+    #[test]
+    fn addresses_that_a_neighbours_slot_covers_occur_often() {
+        let mut images = 0;
+        let mut uses = BTreeMap::new();
+        for image in series(9, 2000) {
+            let found = met(&image);
+            images += !found.is_empty() as u32;
+            for purpose in found {
+                *uses.entry(purpose).or_insert(0) += 1;
+            }
+        }
+        assert!(images > 2000 / 20, "{images}");
+        assert!(uses.len() == 3 && uses.values().all(|count| *count > 2000 / 100), "{uses:?}");
     }
 
     #[test]

@@ -8,6 +8,7 @@ use super::values;
 use crate::assemble::*;
 use crate::cp0::number;
 use crate::draft::{Draft, CODE, RAM_HIGH};
+use crate::tlb::SLOTS;
 
 /// Where the program runs: its first address and the mapped page it needs, if any.
 struct Place {
@@ -80,6 +81,17 @@ fn map_program(random: &mut Random, draft: Draft, place: &Place, space: u32) -> 
     draft.slot(random.word_below(8), [mask, base | space, even, odd])
 }
 
+/// Adds at times a slot over the program's page that belongs to another address space.
+fn map_neighbour(random: &mut Random, draft: Draft, place: &Place, space: u32) -> Draft {
+    let Some((mask, base, _)) = place.page.filter(|_| random.one_in(3)) else {
+        return draft;
+    };
+    let larger = random.pick(&values::MASKS).max(mask);
+    let other = base | space ^ 1 << random.below(8);
+    let [even, odd] = [0, 1].map(|_| random.word_below(16) << 6 | values::entry_bits(random));
+    draft.slot(random.word_below(SLOTS as u32), [larger, other, even, odd & !1])
+}
+
 /// Adds page pairs of data at bases that do not overlap, some in several address spaces.
 fn map_data(
     random: &mut Random,
@@ -95,7 +107,7 @@ fn map_data(
         let region = if high { 0xc800_0000 } else { 0x0800_0000 };
         let base: u64 = region + (number << 26);
         let mask = values::mask(random);
-        for copy in 0..1 + random.below(4) / 3 {
+        for copy in 0..1 + random.below(2) {
             let frames = [0, 1].map(|_| match random.below(12) {
                 0 => random.word_below(1 << 24),
                 1 => random.word_below(16),
@@ -194,6 +206,11 @@ fn with_cp0(random: &mut Random, mut draft: Draft, status: u64, space: u32) -> D
 /// Drafts a random machine with a program and a budget of 1 to 64 steps.
 pub fn draft(random: &mut Random) -> Draft {
     let status = values::status(random);
+    draft_with(random, status)
+}
+
+/// Drafts the same from a Status value.
+pub fn draft_with(random: &mut Random, status: u64) -> Draft {
     let user = status & 0x16 == 0x10;
     let space = random.pick(&values::SPACES);
     let place = place(random, user);
@@ -202,6 +219,7 @@ pub fn draft(random: &mut Random) -> Draft {
         draft = draft.cp0(number::EPC, place.start + 4 * random.below(24));
         draft = draft.cp0(number::ERROR_EPC, place.start + 4 * random.below(24));
     }
+    draft = map_neighbour(random, draft, &place, space);
     draft = map_program(random, draft, &place, space);
     let hot = hot_addresses(random);
     let (mut draft, pairs) = map_data(random, draft, space, user, &hot);

@@ -10,6 +10,7 @@ mod exceptions;
 mod frames;
 mod linked;
 mod loads;
+mod neighbours;
 mod pages;
 mod roms;
 mod stops;
@@ -39,6 +40,7 @@ pub fn all() -> Vec<Image> {
     images.extend(stops::images());
     images.extend(decoding::images());
     images.extend(user::images());
+    images.extend(neighbours::images());
     images.extend(roms::images());
     images.extend(frames::images());
     images

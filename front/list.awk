@@ -64,7 +64,7 @@ function register_words(place, value) {
         (decimal(value) == "" ? "" : " (" decimal(value) ")")
 }
 
-# The two words of a RAM frame: physical address, where a program sees it, whose page it is, the instruction, and its characters.
+# The two words of a RAM frame: physical address, where a program sees it and for which ASIDs, the word, its characters, the instruction.
 function list_ram(i, at, value, half, word, instruction, physical) {
     physical = number(substr(text[i], 3, 8))
     for (half = 0; half < 2; half++) {

@@ -25,10 +25,10 @@ card_list() {
   exit "$status"
 }
 
-# Writes to $scratch/code a line 'LAYER ADDRESS INSTRUCTION' for each word; eight layers are plenty (place.awk).
+# Writes to $scratch/code a line 'LAYER ADDRESS INSTRUCTION' for each word, in 16 layers (place.awk): RAM has 16 pages, each seen at one address.
 disassemble() {
   local layer
-  for layer in 1 2 3 4 5 6 7 8; do
+  for layer in {1..16}; do
     awk_with 'hex names frames fields place srec' -v "layer=$layer" "$scratch/image.text" >"$scratch/code.srec" || return
     [ -s "$scratch/code.srec" ] || return 0
     "${mips}objdump" -D -z -b srec -m mips:4000 -EB -M gpr-names=32,cp0-names=r4000 "$scratch/code.srec" >"$scratch/code.list" &&

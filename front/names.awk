@@ -67,7 +67,7 @@ function stop_advice(stop) {
     if (stop == 6) return "write the frame as tag and digits in lowercase hexadecimal, with no space, and end the line with LF"
     if (stop == 7) return "give the frame a value that the card has; --image IMAGE shows the reason"
     if (stop == 8) return "end the image with one frame 03 and the budget in 8 digits, and nothing after it"
-    if (stop == 16) return "look for two slots with the same page (./card state shows them); clear one before writing the other"
+    if (stop == 16) return "look for two slots whose pages overlap, of one ASID or one of them global (./card state shows them); clear one before writing the other"
     if (stop == 17) return "put a nop, or another plain instruction, after the branch or jump that stands before PC"
     if (stop == 18) return "leave CU1 to CU3, RE, KX, SX and UX clear, KSU 0 or 2, and take a PageMask for 4 KiB x 4^k"
     return "this should not happen: please send the image to the bench"

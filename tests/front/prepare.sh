@@ -51,4 +51,9 @@ images() {
   printf 'odd' >"$T/odd rom"
   cp "$tests/programs/frames.image" "$T/frames"
   cp "$tests/programs/spaces.image" "$T/spaces"
+  awk 'BEGIN {
+    for (i = 1; i <= 16; i++)
+      printf "05%02x00000000004000%02x%08x00000000\n02%08x2408%04x00000000\n", i, i, (i - 1) * 64 + 2, (i - 1) * 4096, i
+    print "0300000000"
+  }' >"$T/sixteen"
 }

@@ -1,6 +1,6 @@
 -- Whether two words have the same bytes: what their lengths and one byte decide.
 use Prim.Native.Nat.{ℕ, suc, _+_, _<_, _≤_}
-use mathlib.Core.Bool.{Bool, true, false}
+use mathlib.Core.Bool.{true, false}
 use mathlib.Core.Path.{_≡_, refl, ap}
 use mathlib.Core.List.{List, [], _∷_}
 use native.Mathlib.Numerals.{add-one}
@@ -9,19 +9,15 @@ use lib.ListN.{length, getD, drop}
 use lib.Dec.{eqb}
 use lib.Seq.{drop-cons, drop-length}
 use borrow.Author.Tests.{eq-eqb, ne-eqb}
-use Rattle.promise.specs.Pick.{both}
+use Rattle.promise.specs.Pick.{both-false}
 use Rattle.benchcard.specs.Arguments.{same}
-
-both-false : (t : Bool) → both t false ≡ false
-both-false true = refl
-both-false false = refl
 
 pub other-length : (a b : List ℕ) → (length a ≡ length b → ⊥) → same a b ≡ false
 unfolding same
 other-length [] [] h = absurd (h refl)
 other-length [] (y ∷ b) h = refl
 other-length (x ∷ a) [] h = refl
-other-length (x ∷ a) (y ∷ b) h = rw (other-length a b (λ e. h (ap suc e))) (both-false (eqb x y))
+other-length (x ∷ a) (y ∷ b) h = rw (other-length a b (λ e. h (ap suc e))) (both-false (eqb x y) false refl)
 
 drop-end : (a : List ℕ) (i : ℕ) → i ≡ length a → drop i a ≡ []
 drop-end a i e = rw (e, drop-length)

@@ -3,7 +3,7 @@ use Prim.Native.Nat.{ℕ}
 use native.Mathlib.Omega.{arith}
 use mathlib.Core.Path.{_≡_, refl}
 use mathlib.Core.Bool.{Bool, true, false}
-use Rattle.promise.specs.Pick.{pick, both}
+use Rattle.promise.specs.Pick.{pick, both, both-false}
 use Rattle.cp0.proofs.InRange.{split}
 use Rattle.decode.specs.declared.Instr.{Instr}
 use Rattle.decode.specs.declared.Instr.the-variants as instr
@@ -79,10 +79,6 @@ unfolding rules.ready usable allowed reservedCop0
 reserved-ready u c slot no-instruction = refl
 reserved-ready u c slot (code-reserved l) = rw l
 reserved-ready u c slot (doubleword p q r) = rw (p, q, r)
-
-both-false : (a b : Bool) → b ≡ false → both a b ≡ false
-both-false true b e = e
-both-false false b e = refl
 
 pub slot-in : (u c slot : Bool) (i : Instr) → isBranch i ≡ true → slot ≡ true → both (locked u c) (isCp0 i) ≡ false → rules.ready u c slot (decoded.Is i) ≡ ready.InSlot
 unfolding rules.ready usable allowed inPlace

@@ -4,6 +4,7 @@ pub mod Same
 pub mod Good
 pub mod Neighbour
 pub mod Step
+pub mod Steps
 pub mod Isolation
 pub mod OneMachine
 pub mod Example

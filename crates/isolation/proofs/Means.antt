@@ -1,4 +1,4 @@
--- Reached is what the demand says.
+-- A search that finds slot i is one in which slot i matches and no other, so what is reached is what the demand says.
 use Prim.Native.Nat.{ℕ}
 use native.Mathlib.Omega.{arith}
 use mathlib.Core.Path.{_≡_, refl, ap, _∙_}

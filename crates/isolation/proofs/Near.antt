@@ -1,4 +1,4 @@
--- Where a User address leads is reached, and so are the neighbours of the same eight bytes.
+-- Where a User address leads is reached, and so are the other bytes of the same eight.
 use Prim.Native.Nat.{ℕ, _*_, _/_, _%_, _+_}
 use native.Mathlib.Omega.{arith}
 use mathlib.Core.Path.{_≡_, sym, _∙_, ap}
@@ -19,7 +19,7 @@ use Rattle.cp0.specs.Status.{user, modeOf}
 use Rattle.cp0.proofs.Modes.{mode-user}
 use Rattle.isolation.specs.Reach.{Reached, ReachedDirty}
 
--- ---- neighbours
+-- ---- the eight bytes
 
 pub reached-near : {tlb : List ℕ} {asid p : ℕ} (q : ℕ) → q / 8 ≡ p / 8 → Reached tlb asid p → Reached tlb asid q
 reached-near {tlb} {asid} {p} q same r =

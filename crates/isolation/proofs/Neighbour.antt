@@ -4,9 +4,9 @@ use native.Mathlib.Omega.{arith}
 use mathlib.Core.Path.{_≡_, refl, sym, _∙_, ap}
 use mathlib.Core.List.{List}
 use mathlib.Core.Logic.{_⊎_, inl, inr}
-use mathlib.Core.Bool.{Bool, true, false}
+use mathlib.Core.Bool.{true, false}
 use borrow.Author.Tests.{ne-eqb}
-use Rattle.promise.specs.Pick.{pick, both}
+use Rattle.promise.specs.Pick.{pick, both-false}
 use Rattle.memory.specs.declared.PAddr.{PAddr}
 use Rattle.memory.specs.declared.Eight.{Eight}
 use Rattle.tlb.specs.declared.VAddr.{VAddr}
@@ -43,13 +43,9 @@ use Rattle.access.specs.Fetch.{wordAt}
 use Rattle.effect.specs.Step as step
 use Rattle.effect.specs.Step.{leads, asked, executed, readied, begun, effectOf}
 use Rattle.isolation.specs.Reach.{Reached, ReachedDirty}
-use Rattle.isolation.specs.Neighbour.{Neighbour, SameSlots, MatchesNothing, ReachedAlike}
+use Rattle.isolation.specs.Neighbour.{Neighbours, SameSlots, MatchesNothing, ReachedAlike}
 use Rattle.isolation.proofs.Good.{Plainly, plainly, goes-plain}
 use Rattle.isolation.proofs.Good.Plainly.{plain}
-
-both-false : (a b : Bool) → b ≡ false → both a b ≡ false
-both-false true b e = e
-both-false false b e = refl
 
 pub matches-nothing : MatchesNothing
 unfolding matchesAt hits sameSpace
@@ -62,7 +58,7 @@ module _ (tlb₁ tlb₂ : List ℕ) (asid : ℕ) (S : SameSlots asid tlb₁ tlb�
   unfolding matchesAt
   matches-same v i h = go (S .same i h)
     where
-      go : (slotAt tlb₁ i ≡ slotAt tlb₂ i) ⊎ (Neighbour tlb₁ asid i × Neighbour tlb₂ asid i) → matchesAt tlb₁ asid v i ≡ matchesAt tlb₂ asid v i
+      go : (slotAt tlb₁ i ≡ slotAt tlb₂ i) ⊎ Neighbours tlb₁ tlb₂ asid i → matchesAt tlb₁ asid v i ≡ matchesAt tlb₂ asid v i
       go (inl e) = ap (λ (s : Slot). hits pageWidth (s .mask) (s .hi) asid (v .0)) e
       go (inr n) = matches-nothing tlb₁ asid i v (n .0) ∙ sym (matches-nothing tlb₂ asid i v (n .1))
 
@@ -85,13 +81,13 @@ module _ (tlb₁ tlb₂ : List ℕ) (asid : ℕ) (S : SameSlots asid tlb₁ tlb�
       let o = one-only tlb₁ asid v i e in
       go (o .matches-it) (S .same i (o .below))
     where
-      go : matchesAt tlb₁ asid v i ≡ true → (slotAt tlb₁ i ≡ slotAt tlb₂ i) ⊎ (Neighbour tlb₁ asid i × Neighbour tlb₂ asid i) → throughSlot (slotAt tlb₁ i) i v ≡ throughSlot (slotAt tlb₂ i) i v
+      go : matchesAt tlb₁ asid v i ≡ true → (slotAt tlb₁ i ≡ slotAt tlb₂ i) ⊎ Neighbours tlb₁ tlb₂ asid i → throughSlot (slotAt tlb₁ i) i v ≡ throughSlot (slotAt tlb₂ i) i v
       go t (inl s) = ap (λ (s : Slot). throughSlot s i v) s
       go t (inr n) =
           let d = matches-nothing tlb₁ asid i v (n .0) in
           let z : _≡_ {A = ℕ} 0 1 = cc in absurd (omega arith)
 
-  pub mapped-same : (v : VAddr) → mapped tlb₁ asid v ≡ mapped tlb₂ asid v
+  mapped-same : (v : VAddr) → mapped tlb₁ asid v ≡ mapped tlb₂ asid v
   unfolding mapped
   mapped-same v = found-same v (lookup tlb₁ asid v) refl ∙ ap (throughFound tlb₂ v) (lookup-same v)
 
@@ -101,7 +97,7 @@ module _ (tlb₁ tlb₂ : List ℕ) (asid : ℕ) (S : SameSlots asid tlb₁ tlb�
   segment-same Kernel v = rw (mapped-same v)
   segment-same Error v = rw (mapped-same v)
 
-  pub translate-same : (mode : Mode) (align : ℕ) (v : VAddr) → translate mode asid tlb₁ align v ≡ translate mode asid tlb₂ align v
+  translate-same : (mode : Mode) (align : ℕ) (v : VAddr) → translate mode asid tlb₁ align v ≡ translate mode asid tlb₂ align v
   unfolding translate
   translate-same mode align v = rw (segment-same mode v)
 
@@ -110,7 +106,7 @@ module _ (tlb₁ tlb₂ : List ℕ) (asid : ℕ) (S : SameSlots asid tlb₁ tlb�
 pub turned-slots : {asid : ℕ} {tlb₁ tlb₂ : List ℕ} → SameSlots asid tlb₁ tlb₂ → SameSlots asid tlb₂ tlb₁
 turned-slots {asid} {tlb₁} {tlb₂} S = record { same = λ i h. go i (S .same i h) }
   where
-    go : (i : ℕ) → (slotAt tlb₁ i ≡ slotAt tlb₂ i) ⊎ (Neighbour tlb₁ asid i × Neighbour tlb₂ asid i) → (slotAt tlb₂ i ≡ slotAt tlb₁ i) ⊎ (Neighbour tlb₂ asid i × Neighbour tlb₁ asid i)
+    go : (i : ℕ) → (slotAt tlb₁ i ≡ slotAt tlb₂ i) ⊎ Neighbours tlb₁ tlb₂ asid i → (slotAt tlb₂ i ≡ slotAt tlb₁ i) ⊎ Neighbours tlb₂ tlb₁ asid i
     go i (inl e) = inl (sym e)
     go i (inr n) = inr (n .1, n .0)
 

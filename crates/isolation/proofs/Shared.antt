@@ -9,10 +9,10 @@ use lib.ListN.{length, getD}
 use Rattle.tlb.specs.Slot.{slotAt, asidOf, globalOf}
 use Rattle.cp0.specs.Registers as cp0
 use Rattle.isolation.specs.Reach.{SameReached}
-use Rattle.isolation.specs.Neighbour.{Neighbour}
+use Rattle.isolation.specs.Neighbour.{Neighbour, Neighbours}
 use Rattle.isolation.specs.Isolation.{World, run, Alike}
 use Rattle.isolation.specs.Example.{userCp0}
-use Rattle.isolation.specs.Shared.{slots, sharing, Ends, Shared, But, Promised, Neighbours, Others, NotGlobal, Limits}
+use Rattle.isolation.specs.Shared.{slots, sharing, Ends, Shared, But, Promised, Others, NotGlobal, Limits}
 use Rattle.isolation.proofs.Isolation.{begins, isolation}
 use Rattle.isolation.proofs.Computed.{computed}
 
@@ -104,8 +104,8 @@ pub limits : Limits
 limits =
     record {
       neighbours = λ w₁ w₂ W₁ W₂ B n U. isolation w₁ w₂ W₁ W₂ (alike B) n U .regs;
-      not-global-ones = λ P. let e = told (computed .global-valid) (computed .global-invalid) (but Others 0 0 0x3002 0x46 0x3002 0 others) P in omega arith;
-      not-its-own = λ P. let e = told (computed .own-valid) (computed .own-invalid) (but NotGlobal 0 0 0x2001 0x46 0x2001 0 not-global) P in omega arith;
-      not-of-the-first = λ P. let e = told (computed .theirs-valid) (computed .own-valid) (but _ 0 0 0x2002 0x46 0x2001 0x46 (theirs 0 0 0x2002 0x46 refl refl)) P in omega arith;
-      not-of-the-second = λ P. let e = told (computed .own-valid) (computed .theirs-valid) (but _ 0 0 0x2001 0x46 0x2002 0x46 (theirs 0 0 0x2002 0x46 refl refl)) P in omega arith;
+      refuted-global = λ P. let e = told (computed .global-valid) (computed .global-invalid) (but Others 0 0 0x3002 0x46 0x3002 0 others) P in omega arith;
+      refuted-own = λ P. let e = told (computed .own-valid) (computed .own-invalid) (but NotGlobal 0 0 0x2001 0x46 0x2001 0 not-global) P in omega arith;
+      refuted-first-alone = λ P. let e = told (computed .theirs-valid) (computed .own-valid) (but _ 0 0 0x2002 0x46 0x2001 0x46 (theirs 0 0 0x2002 0x46 refl refl)) P in omega arith;
+      refuted-second-alone = λ P. let e = told (computed .own-valid) (computed .theirs-valid) (but _ 0 0 0x2001 0x46 0x2002 0x46 (theirs 0 0 0x2002 0x46 refl refl)) P in omega arith;
     }

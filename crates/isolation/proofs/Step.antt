@@ -1,4 +1,4 @@
--- One step of a User program: two worlds that it cannot tell apart stay so, and only what it may store to changes.
+-- One step of a User program: two worlds that it cannot tell apart stay so, only what it may store to changes, and other neighbours' slots make no difference.
 use Prim.Native.Nat.{ℕ, _+_, _-_, _*_, _/_, _%_, _≤_}
 use native.Mathlib.Omega.{arith}
 use mathlib.Core.Path.{_≡_, refl, sym, _∙_, ap}

@@ -1,4 +1,4 @@
--- The promise to the mills: a User program learns nothing from, and changes nothing of, what it does not reach.
+-- The promise to the mills: a User program learns nothing from, and changes nothing of, what it does not reach, and learns nothing of its neighbours' slots.
 use Prim.Native.Nat.{ℕ, _<_}
 use mathlib.Core.Path.{_≡_}
 use mathlib.Core.Bool.{Bool, true, false}
@@ -51,7 +51,7 @@ abbrev pub UserFor : ℕ → World → Type 0
 UserFor n w = (k : ℕ) → k < n → (run w k .stop ≡ 0) × (inUser (run w k .machine) ≡ true)
 
 -- what two runs of one budget have in common: registers and CP0, every slot but a neighbour's, the counted steps, the stop, and every
--- reached byte; and each keeps its own slots as they were at first
+-- reached byte; and each keeps its whole TLB as it was at first
 pub record SameRun (w₁ w₂ : World) (n : ℕ) : Type 0 where
   pub cpu : run w₁ n .machine .cpu ≡ run w₂ n .machine .cpu
   pub cp0 : run w₁ n .machine .cp0 ≡ run w₂ n .machine .cp0
@@ -73,7 +73,7 @@ Confinement =
     (w : World) → UserWorld w → (n : ℕ) → UserFor n w
     → OnlyDirtyChanged (w .machine .tlb) (asid (w .machine)) (w .ram) (run w n .ram)
 
--- no step of that span changes the TLB or the ASID, the last neither; so what is reached, and whose slots are a neighbour's, stays as it was at first
+-- no step of that span changes the TLB or the ASID, the last neither; so what is reached, and which slots are a neighbour's, stays as it was at first
 abbrev pub Still : Type 0
 Still = (w : World) → UserWorld w → (n : ℕ) → UserFor n w → (run w n .machine .tlb ≡ w .machine .tlb) × (asid (run w n .machine) ≡ asid (w .machine))
 
@@ -81,6 +81,6 @@ Still = (w : World) → UserWorld w → (n : ℕ) → UserFor n w → (run w n .
 abbrev pub Turned : Type 0
 Turned = (w₁ w₂ : World) → Alike w₁ w₂ → Alike w₂ w₁
 
--- nor does it whose steps begin in User mode: they are the same
+-- if each of the first's n steps begins in User mode, so does each of the second's
 abbrev pub SameSpan : Type 0
 SameSpan = (w₁ w₂ : World) → UserWorld w₁ → UserWorld w₂ → Alike w₁ w₂ → (n : ℕ) → UserFor n w₁ → UserFor n w₂

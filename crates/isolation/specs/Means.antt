@@ -13,7 +13,7 @@ use Rattle.isolation.specs.Reach.{Reached, ReachedDirty}
 abbrev pub lo : List ℕ → ℕ → ℕ → ℕ
 lo tlb i v = loOf (slotAt tlb i) (oddOf (slotAt tlb i .mask) v)
 
--- an address below 2^31, which slot i of the 48 matches and no other, whose half of it is valid, and which it takes to p
+-- a way to p: an address below 2^31, the slot that matches it, which no other of the 48 does, its half that the address picks, which is valid, and where that leads
 pub record Leads (tlb : List ℕ) (asid p : ℕ) : Type 0 where
   pub from : ℕ
   pub slot : ℕ
@@ -22,14 +22,16 @@ pub record Leads (tlb : List ℕ) (asid p : ℕ) : Type 0 where
   pub valid : validOf (lo tlb slot from) ≡ true
   pub lands : physical (slotAt tlb slot .mask) (lo tlb slot from) from ≡ p
 
--- and whose half is dirty too
+-- a way through a half that is dirty too
 pub record LeadsDirty (tlb : List ℕ) (asid p : ℕ) : Type 0 where
   pub leads : Leads tlb asid p
   pub dirty : dirtyOf (lo tlb (leads .slot) (leads .from)) ≡ true
 
+-- a byte is reached where there is a way to it
 pub record Means (tlb : List ℕ) (asid p : ℕ) : Type 0 where
   pub reached : Reached tlb asid p ↔ Leads tlb asid p
   pub dirty : ReachedDirty tlb asid p ↔ LeadsDirty tlb asid p
 
+-- of every byte
 abbrev pub ReachedMeans : Type 0
 ReachedMeans = (tlb : List ℕ) (asid p : ℕ) → Means tlb asid p

@@ -14,9 +14,13 @@ pub record Neighbour (tlb : List ℕ) (asid i : ℕ) : Type 0 where
   pub not-global : globalOf (slotAt tlb i .hi) ≡ false
   pub other : asidOf (slotAt tlb i .hi) ≡ asid → ⊥
 
+-- slot i of both TLBs is
+abbrev pub Neighbours : List ℕ → List ℕ → ℕ → ℕ → Type 0
+Neighbours tlb₁ tlb₂ asid i = Neighbour tlb₁ asid i × Neighbour tlb₂ asid i
+
 -- two TLBs are alike but for slots that in both are a neighbour's (W10)
 pub record SameSlots (asid : ℕ) (tlb₁ tlb₂ : List ℕ) : Type 0 where
-  pub same : (i : ℕ) → i < 48 → (slotAt tlb₁ i ≡ slotAt tlb₂ i) ⊎ (Neighbour tlb₁ asid i × Neighbour tlb₂ asid i)
+  pub same : (i : ℕ) → i < 48 → (slotAt tlb₁ i ≡ slotAt tlb₂ i) ⊎ Neighbours tlb₁ tlb₂ asid i
 
 -- a neighbour's slot matches no address, so it is never found, nor one of two that are stop 16
 abbrev pub MatchesNothing : Type 0

@@ -1,4 +1,4 @@
--- Demand 3 as document 01 has it, of one machine with two memories: it follows from W10's.
+-- Demand 3 as it was before W10, of one machine with two memories: it follows.
 use Prim.Native.Nat.{ℕ}
 use mathlib.Core.Path.{_≡_}
 use Rattle.memory.specs.Memory.{romBase}

@@ -9,7 +9,7 @@ use Rattle.tlb.specs.Slot.{slotAt, asidOf, globalOf}
 use Rattle.effect.specs.After.{cpuOf}
 use Rattle.card.specs.Machine.{machine}
 use Rattle.card.specs.Run.{Whole}
-use Rattle.isolation.specs.Neighbour.{Neighbour}
+use Rattle.isolation.specs.Neighbour.{Neighbour, Neighbours}
 use Rattle.isolation.specs.Isolation.{World, asid, run, UserWorld, UserFor, Alike}
 use Rattle.isolation.specs.Example.{userCp0}
 
@@ -74,10 +74,6 @@ Promised may =
     (w₁ w₂ : World) → UserWorld w₁ → UserWorld w₂ → But may w₁ w₂ → (n : ℕ) → UserFor n w₁
     → run w₁ n .machine .regs ≡ run w₂ n .machine .regs
 
--- slot i of both is a neighbour's
-abbrev pub Neighbours : List ℕ → List ℕ → ℕ → ℕ → Type 0
-Neighbours tlb₁ tlb₂ asid i = Neighbour tlb₁ asid i × Neighbour tlb₂ asid i
-
 -- slot i of both is of another ASID, global or not
 abbrev pub Others : List ℕ → List ℕ → ℕ → ℕ → Type 0
 Others tlb₁ tlb₂ asid i = (asidOf (slotAt tlb₁ i .hi) ≡ asid → ⊥) × (asidOf (slotAt tlb₂ i .hi) ≡ asid → ⊥)
@@ -86,10 +82,10 @@ Others tlb₁ tlb₂ asid i = (asidOf (slotAt tlb₁ i .hi) ≡ asid → ⊥) ×
 abbrev pub NotGlobal : List ℕ → List ℕ → ℕ → ℕ → Type 0
 NotGlobal tlb₁ tlb₂ asid i = (globalOf (slotAt tlb₁ i .hi) ≡ false) × (globalOf (slotAt tlb₂ i .hi) ≡ false)
 
--- it holds of slots that in both are a neighbour's. It would not hold of global ones, nor of the program's own, nor of those that are a neighbour's in one alone
+-- it holds of slots that in both are a neighbour's. It would not hold of global ones, nor of the program's own, nor of those of which one machine alone is asked
 pub record Limits : Type 0 where
   pub neighbours : Promised Neighbours
-  pub not-global-ones : Promised Others → ⊥
-  pub not-its-own : Promised NotGlobal → ⊥
-  pub not-of-the-first : Promised (λ tlb₁ tlb₂. Neighbour tlb₁) → ⊥
-  pub not-of-the-second : Promised (λ tlb₁ tlb₂. Neighbour tlb₂) → ⊥
+  pub refuted-global : Promised Others → ⊥
+  pub refuted-own : Promised NotGlobal → ⊥
+  pub refuted-first-alone : Promised (λ tlb₁ tlb₂. Neighbour tlb₁) → ⊥
+  pub refuted-second-alone : Promised (λ tlb₁ tlb₂. Neighbour tlb₂) → ⊥

@@ -23,3 +23,8 @@ not a = pick a false true
 pub pick-ap : {A B : Type 0} (f : A → B) (t : Bool) (a b : A) → f (pick t a b) ≡ pick t (f a) (f b)
 pick-ap f true a b = refl
 pick-ap f false a b = refl
+
+-- where the second of two tests does not hold, not both do
+pub both-false : (a b : Bool) → b ≡ false → both a b ≡ false
+both-false true b e = e
+both-false false b e = refl

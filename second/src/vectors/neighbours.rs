@@ -58,7 +58,8 @@ fn mill(name: String) -> Draft {
     ];
     let log = handler();
     let general = [&[addiu(23, 23, 1)], &log[..]].concat();
-    // A refill and a return for each word but the last two, and a few steps in the page.
+    // For each word but the last two its exception, the handler, and one step more at the general
+    // vector; then the last two, and a few in the page.
     let steps = 6 * (log.len() as u32 + 2) + 2 + 4;
     Draft::fresh(name)
         .cp0(number::STATUS, USER_STATUS)
@@ -190,7 +191,10 @@ mod tests {
         assert!(parts.len() >= 2 && parts.iter().all(|part| part.0 == parts[0].0));
         let lines = parts.iter().flat_map(|part| &part.1);
         let different = lines.filter(|line| !parts.iter().all(|part| part.1.contains(line)));
-        different.map(|line| usize::from_str_radix(&line[2..4], 16).unwrap()).collect()
+        let slots: BTreeSet<usize> =
+            different.map(|line| usize::from_str_radix(&line[2..4], 16).unwrap()).collect();
+        assert!(!slots.is_empty());
+        slots
     }
 
     /// Gives the slots of an image at first, whose ASID is A's.

@@ -14,7 +14,7 @@ pub record Neighbour (tlb : List ℕ) (asid i : ℕ) : Type 0 where
   pub not-global : globalOf (slotAt tlb i .hi) ≡ false
   pub other : asidOf (slotAt tlb i .hi) ≡ asid → ⊥
 
--- slot i of both TLBs is
+-- slot i is a neighbour's in both TLBs
 abbrev pub Neighbours : List ℕ → List ℕ → ℕ → ℕ → Type 0
 Neighbours tlb₁ tlb₂ asid i = Neighbour tlb₁ asid i × Neighbour tlb₂ asid i
 

@@ -82,7 +82,8 @@ Others tlb₁ tlb₂ asid i = (asidOf (slotAt tlb₁ i .hi) ≡ asid → ⊥) ×
 abbrev pub NotGlobal : List ℕ → List ℕ → ℕ → ℕ → Type 0
 NotGlobal tlb₁ tlb₂ asid i = (globalOf (slotAt tlb₁ i .hi) ≡ false) × (globalOf (slotAt tlb₂ i .hi) ≡ false)
 
--- it holds of slots that in both are a neighbour's. It would not hold of global ones, nor of the program's own, nor of those of which one machine alone is asked
+-- it holds of slots that in both are a neighbour's. It would not hold of global ones, nor of the program's own, nor of
+-- those that are a neighbour's in one of the two, whatever the other has there
 pub record Limits : Type 0 where
   pub neighbours : Promised Neighbours
   pub refuted-global : Promised Others → ⊥

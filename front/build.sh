@@ -2,7 +2,7 @@
 # crate `programs` exports each program's function with its status, and that function is linked as C's main.
 # shellcheck shell=bash disable=SC2154
 
-programs=(cardrun cardstate vectors benchcard)
+programs=(cardrun cardstate cardimage vectors benchcard)
 
 # Proves and links the programs for the sake of NAME, saying how far it is; what was built by which sums is written down last.
 build() {

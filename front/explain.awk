@@ -105,6 +105,7 @@ function explain_run(i, tag, place) {
     }
     print "Stop " stop ": " stop_meaning(stop) "."
     print "What to do: " stop_advice(stop) "."
+    if (ENVIRON["IMAGE"] != "") explain_image()
     printf "Steps: %.0f\n", number(substr(answer[1], 5))
     explain_registers()
     if (pending != "") explain_pending()
@@ -113,6 +114,19 @@ function explain_run(i, tag, place) {
     if (ram_frames) explain_ram()
     if (pending != "" && !(47 in slot))
         print "This state is cut short: a whole one has 48 TLB slots and then the RAM that is not 0."
+}
+
+# Whether anything is promised of the image given, by the Status that it leaves; none that the reader refuses was run.
+function explain_image(i, status, words) {
+    status = fresh_status()
+    for (i = 1; i <= image_lines && !frame_fault(quoted[i]) && quoted[i] !~ /^03/; i++)
+        if (quoted[i] ~ /^040c/)
+            status = number(substr(quoted[i], 13))
+    words = promise_words(status, "this image")
+    if (i != image_lines || frame_fault(quoted[i]) || ENVIRON["ENDED"] == "")
+        print "  (the image given is not the one that was run: the reader refuses it)"
+    else if (words != "")
+        print words
 }
 
 function explain_registers(place, line, count) {
@@ -148,6 +162,8 @@ function explain_cp0(status, cause, place, value) {
         print "Exception: none under way; the last one was an interrupt, or there was none"
     print "Status " hex(status, 8) ": " status_fields(status)
     print "  " status_words(status)
+    if (promise_words(status, "") != "")
+        print "  " promise_words(status, "what runs from here")
     print "Cause " hex(cause, 8) ": " cause_fields(cause)
     print "CP0 registers:"
     for (place = 0; place < 32; place++)

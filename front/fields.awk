@@ -6,6 +6,17 @@ function mode_name(status) {
     return bits(status, 3, 2) == 2 ? "User mode" : "Kernel mode"
 }
 
+# That isolation promises nothing of something, and why; nothing where it is in User mode with CU0 clear.
+function promise_words(status, what) {
+    if (mode_name(status) == "User mode" && !bits(status, 28, 1)) return ""
+    return mode_name(status) (mode_name(status) == "User mode" ? " with CU0" : "") ": isolation promises nothing of " what
+}
+
+# The Status of a fresh machine: BEV and ERL.
+function fresh_status() {
+    return 4194308
+}
+
 function status_fields(status) {
     return "CU0 " bits(status, 28, 1) ", BEV " bits(status, 22, 1) ", IM " binary(bits(status, 8, 8), 8) \
         ", KSU " bits(status, 3, 2) ", ERL " bits(status, 2, 1) ", EXL " bits(status, 1, 1) ", IE " bits(status, 0, 1)

@@ -1,4 +1,4 @@
-# Each frame of an image in words, with what the reader would refuse. Needs the other files of front/ up to place.awk.
+# Each frame of an image in words, with what the reader would refuse. Needs reach.awk and what that needs.
 
 { code[$1 " " $2] = substr($0, length($1) + length($2) + 3) }
 
@@ -8,6 +8,7 @@ END {
         refuse(5, 0, "")
     for (i = 1; i <= lines; i++)
         list_line(i)
+    print_reach()
     if (!budget)
         refuse(8, lines + 1, "no budget frame")
     if (refused != "")

@@ -17,7 +17,7 @@ card_list() {
   else
     note "code words are not disassembled: install Debian's package $mips_package: apt-get install $mips_package"
   fi
-  awk_with 'hex names frames fields place list' -v "size=$(wc -c <"$scratch/image")" \
+  awk_with 'hex names frames fields place reach list' -v "size=$(wc -c <"$scratch/image")" \
     "$scratch/image.text" "$scratch/code" >"$scratch/list" || status=$?
   [ "$status" -le 1 ] || fail "the list cannot be put together; there may be no room in '$(shown "$temporary")'"
   emit "$scratch/list"

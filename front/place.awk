@@ -3,12 +3,13 @@
 
 FILENAME ~ /image\.text$/ { text[++lines] = $0; next }
 
-# Where each RAM frame up to the budget is seen, and which layer it is.
+# The slots and CP0 moves up to the budget, the last of each; where each RAM frame is seen, and which layer it is.
 function read_image(i, last) {
     for (last = 1; last <= lines; last++)
         if (!frame_fault(text[last])) {
             if (text[last] ~ /^03/) break
             if (text[last] ~ /^05/) slot[number(substr(text[last], 3, 2))] = substr(text[last], 5)
+            if (text[last] ~ /^04/) move[number(substr(text[last], 3, 2))] = number(substr(text[last], 13))
         }
     for (i in slot)
         if (bits(half_of(i, 0), 1, 1) || bits(half_of(i, 1), 1, 1))

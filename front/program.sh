@@ -17,9 +17,16 @@ answer_of() {
     { [ -s "$scratch/answer" ] && ended "$scratch/answer"; } || fail "$name gave no whole answer"
     emit "$scratch/answer"
     ;;
-  1) fail "$name could not read its input or write its answer; there may be no room in '$(shown "$temporary")'" ;;
-  129 | 1[3-8]? | 19[0-2]) fail "$name was ended by signal $((status - 128)), so there is no answer" ;;
-  *) fail "$name ended with status $status, so there is no answer" ;;
+  *) no_answer "$name" "$status" ;;
+  esac
+}
+
+# Ends the command where a proved program ended otherwise than with an answer: no_answer NAME STATUS
+no_answer() {
+  case $2 in
+  1) fail "$1 could not read its input or write its answer; there may be no room in '$(shown "$temporary")'" ;;
+  129 | 1[3-8]? | 19[0-2]) fail "$1 was ended by signal $(($2 - 128)), so there is no answer" ;;
+  *) fail "$1 ended with status $2, so there is no answer" ;;
   esac
 }
 

@@ -125,12 +125,11 @@ own_descriptor() {
   esac
 }
 
-# Copies FILE, or standard input for '-', whole to COPY: take FILE COPY WHAT [MOST]
-# What has more than MOST bytes, 1 MiB if not given, is none: an image has 64 KiB at most, an answer 219 KiB.
+# Copies FILE, or standard input for '-', whole to COPY: take FILE COPY WHAT
+# What has more than 1 MiB is none: an image has 64 KiB at most, an answer 219 KiB.
 take() {
-  local most=${4:-1048576}
-  take_first "$((most + 1))" "$@"
-  [ "$(wc -c <"$2")" -le "$most" ] || fail "$3 has over $((most >> 20)) MiB, too much to be one"
+  take_first 1048577 "$@"
+  [ "$(wc -c <"$2")" -le 1048576 ] || fail "$3 has over 1 MiB, too much to be one"
 }
 
 # Copies the first bytes of FILE, or of standard input for '-', which may have no end: take_first BYTES FILE COPY WHAT
@@ -208,12 +207,6 @@ find_mips() {
     fi
   done
   return 1
-}
-
-need_mips() {
-  find_mips || fail "the MIPS binutils (objdump and its kin) are not on this machine;" \
-    "install Debian's package $mips_package: apt-get install $mips_package"
-  need "$mips_package" "${mips}objdump" "${mips}objcopy" "${mips}readelf" "${mips}nm"
 }
 
 # Runs awk with files of front/: awk_with 'NAME NAME' [WORDS..]

@@ -1,18 +1,19 @@
 # The values of image options as frames: numbers, symbols of the program, names of registers.
 # shellcheck shell=bash disable=SC2154,SC2034
 
-# Prints VALUE as 16 digits: decimal; 0x and hexadecimal, where 8 digits are a word, sign-extended; or a symbol.
+# Sets $right to VALUE as 16 digits: decimal; 0x and hexadecimal, where 8 digits are a word, sign-extended; or a symbol.
 value() {
   local digits
   if [[ $1 =~ ^-?[0-9]{1,18}$ ]]; then
     digits=${1#-}
     while [[ $digits == 0?* ]]; do digits=${digits#0}; done # a leading 0 is no octal here
-    if [[ $1 == -* ]]; then printf '%016x' "-$digits"; else printf '%016x' "$digits"; fi
+    if [[ $1 == -* ]]; then digits=-$digits; fi
+    right=$(printf '%016x' "$digits")
   elif [[ $1 =~ ^0[xX]([0-9a-fA-F]{8})$ ]]; then
-    sign_extend "${BASH_REMATCH[1],,}"
+    right=$(sign_extend "${BASH_REMATCH[1],,}")
   elif [[ $1 =~ ^0[xX]([0-9a-fA-F]{1,16})$ ]]; then
     digits=0000000000000000${BASH_REMATCH[1],,}
-    printf '%s' "${digits: -16}"
+    right=${digits: -16}
   else
     symbol "$1"
   fi
@@ -21,18 +22,24 @@ value() {
 # A word of 8 digits as 16.
 sign_extend() { case $1 in [89a-f]*) printf 'ffffffff%s' "$1" ;; *) printf '00000000%s' "$1" ;; esac; }
 
-# The address of a symbol of the program.
+# Sets $right to the value of a symbol of the first program. Where there is none, what is wrong with a file is said first: it may be cut short.
 symbol() {
   local found
-  found=$("${mips}nm" "$scratch/program" 2>/dev/null | awk -v name="$1" '$3 == name { print substr($1, length($1) - 7); exit }')
-  [ -n "$found" ] && sign_extend "$found"
+  ask symbol symbol "$scratch/file.$([ -n "$user" ] && echo 1 || echo 0)" "$1" || {
+    echo 0300000000 >"$scratch/settings" || no_room
+    ask image "${user:-kernel}" "${copies[@]}"
+    return 1
+  }
+  found=$(<"$scratch/symbol")
+  { [ "$(wc -c <"$scratch/symbol")" -eq 9 ] && [[ $found =~ ^[0-9a-f]{8}$ ]]; } || fail "cardimage gave no value of a symbol"
+  right=$(sign_extend "$found")
 }
 
 # Splits NAME=VALUE into $left and $right (16 digits): halves OPTION WORD
 halves() {
   [[ $2 == *?=?* ]] || wrong "$1 wants NAME=VALUE, not '$(shown "$2")'; write: ./card help image"
   left=${2%%=*}
-  right=$(value "${2#*=}") ||
+  value "${2#*=}" ||
     wrong "$1: '$(shown "${2#*=}")' is no number (decimal, or 0x and up to 16 digits) and no symbol of the program; write: ./card help image"
 }
 
@@ -41,7 +48,6 @@ register_option() {
   halves --reg "$1"
   place=$(awk_with 'hex names number' -v "kind=register" -v "name=${left,,}") ||
     wrong "--reg: '$(shown "$left")' is no register; write one as 8, r8, t0, hi, lo or pc"
-  [ "$place" != 22 ] || pc_given=yes
   add "--reg $(shown "$1")" "01$place$right"
 }
 

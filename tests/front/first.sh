@@ -106,7 +106,7 @@ change() {
 
 # The version is lines KEY=VALUE, and the same for someone who does not own the folder.
 version_of_others() {
-  local keys='commit changes sources front toolchain toolchain_sum cardrun cardstate vectors benchcard '
+  local keys='commit changes sources front toolchain toolchain_sum cardrun cardstate cardimage vectors benchcard '
   (
     cd "$place/repository" && git init -q && git add -A && git -c user.name=x -c user.email=x@x commit -q -m x
   ) >"$T/git" 2>&1 || bad "no repository can be made for version"

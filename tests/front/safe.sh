@@ -104,7 +104,7 @@ limits() {
   for size in 0 1 4; do
     safe "ulimit -f $size" right_or_none "$(limited "$size" './card run "$T/worked"')"
     safe "ulimit -f $size, state" none "$(limited "$size" './card state examples/sweep.image')"
-    safe "ulimit -f $size, image" right_or_none "$(limited "$size" './card image "$T/wide.elf" --user -o "$T/limited"')"
+    safe "ulimit -f $size, image" none "$(limited "$size" './card image "$T/sweep.elf" --user -o "$T/limited"')"
   done
   hold "ulimit -f leaves no half image" [ -z "$(find "$T" -name 'limited*')" ]
 }
@@ -171,6 +171,8 @@ ended_programs() {
     printf '#!/bin/sh\ncat "%s"\n%s\n' "$T/right" "$end" >"$T/ends/cardrun"
     chmod +x "$T/ends/cardrun"
     safe "a program that ends by: $end" none 'CARD_BIN=$T/ends ./card run "$T/worked"'
+    cp "$T/ends/cardrun" "$T/ends/cardimage"
+    safe "a cardimage that ends by: $end" none 'CARD_BIN=$T/ends ./card image "$T/timer.elf"'
   done
 }
 
@@ -221,7 +223,8 @@ places() {
   safe "a process as input" right './card run <(cat "$T/worked")'
   safe "a program that gives nothing" none 'printf "#!/bin/sh\nexit 0\n" >"$T/ends/cardrun" && CARD_BIN=$T/ends ./card run "$T/worked"'
   ln -s "$T/behind" "$T/through"
-  hold "image through a link" ./card image "$T/timer.elf" -o "$T/through"
+  ./card image "$T/timer.elf" -o "$T/through" 2>"$T/said"
+  hold "image through a link" [ $? -eq 0 ]
   hold "image through a link is where it leads" [ -L "$T/through" -a -s "$T/behind" ]
 }
 

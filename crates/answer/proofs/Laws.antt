@@ -4,8 +4,8 @@ use mathlib.Core.Path.{_≡_, refl, ap, subst}
 use mathlib.Core.List.{List, [], _∷_, _++_}
 use native.Mathlib.Omega.{arith}
 use native.Mathlib.Numerals.{add-one}
-use lib.ListN.{length, set}
-use lib.Seq.{sets}
+use lib.ListN.{length, set, getD, drop, drop-of-length-le}
+use lib.Seq.{sets, drop-cons}
 use Rattle.answer.specs.Digits.{character, digit, hexOf}
 use Rattle.card.specs.declared.Machine.{Machine}
 use Rattle.answer.specs.declared.Part.the-variants.{NonZero}
@@ -65,3 +65,10 @@ each-same f g h (suc n) i = rw (h i, each-same f g h n (i + 1))
 pub no-ram : (m : Machine) (ram : List ℕ) (n i : ℕ) → each (lineOf NonZero m ram) n i ≡ each (lineOf NonZero m []) n i
 unfolding lineOf
 no-ram m ram n i = each-same (lineOf NonZero m ram) (lineOf NonZero m []) (λ k. refl) n i
+
+-- what the loop of `put_text` does in a turn, and at its end
+pub sets-more : (l t : List ℕ) (a i : ℕ) → i < length t → sets (set l (a + i) (getD t i 0)) (a + (i + 1)) (drop (i + 1) t) ≡ sets l (a + i) (drop i t)
+sets-more l t a i h = let e : a + (i + 1) ≡ suc (a + i) = omega arith in rw (e, drop-cons t i 0 h, add-one i)
+
+pub sets-none : (l t : List ℕ) (a i : ℕ) → length t ≤ i → sets l (a + i) (drop i t) ≡ l
+sets-none l t a i h = rw (drop-of-length-le t h)

@@ -4,3 +4,4 @@ pub mod Wrote
 pub mod Frames
 pub mod Texts
 pub mod Lengths
+pub mod Placed

@@ -3,6 +3,8 @@ use mathlib.Core.Path.{refl}
 use Rattle.promise.specs.Unique.{Unique, same}
 use Rattle.program.proofs.misused.Kinds as misused-kinds
 use Rattle.program.proofs.misused.Reads as misused-reads
+use Rattle.program.proofs.refused.Kinds as refused-kinds
+use Rattle.program.proofs.refused.Reads as refused-reads
 use Rattle.program.proofs.status.Kinds as status-kinds
 use Rattle.program.proofs.status.Reads as status-reads
 use Rattle.program.proofs.unread.Kinds as unread-kinds
@@ -21,3 +23,6 @@ unwritten-once κs a p z₁ z₂ ws₁ ws₂ h₁ h₂ = (same h₁ h₂, refl)
 
 pub misused-once : Unique misused-kinds.ps misused-kinds.r misused-reads.Pre misused-reads.Post
 misused-once κs a p z₁ z₂ ws₁ ws₂ h₁ h₂ = (same h₁ h₂, refl)
+
+pub refused-once : Unique refused-kinds.ps refused-kinds.r refused-reads.Pre refused-reads.Post
+refused-once κs a p z₁ z₂ ws₁ ws₂ h₁ h₂ = (same h₁ h₂, refl)

@@ -2,7 +2,7 @@
 ghost use mathlib.Core.Path.{_≡_};
 ghost use Rattle.program.specs.Ends.{statusOf, endOf};
 ghost use Rattle.program.specs.Within.{Within};
-ghost use Rattle.program.specs.declared.End.the-variants.{Unread, Unwritten, Misused};
+ghost use Rattle.program.specs.declared.End.the-variants.{Unread, Unwritten, Misused, Refused};
 use libc::STDERR_FILENO;
 use libc::STDOUT_FILENO;
 
@@ -12,6 +12,7 @@ pub enum End {
     Unread,
     Unwritten,
     Misused,
+    Refused,
 }
 
 // What was read: so many bytes, after which the input or the room ended; or reading failed.
@@ -20,7 +21,7 @@ pub enum Input {
     Failed,
 }
 
-// The status that says so: 0 with a whole answer, 1 without one, 2 for wrong arguments.
+// The status that says so: 0 with a whole answer, 1 without one, 2 for wrong arguments, 3 where what was asked for is refused.
 pub fn status(end: End) -> i32
     ensures { λ r. ⌜ r ≡ statusOf end ⌝ }
 {
@@ -29,6 +30,7 @@ pub fn status(end: End) -> i32
         End::Unread => 1,
         End::Unwritten => 1,
         End::Misused => 2,
+        End::Refused => 3,
     }
 }
 
@@ -83,6 +85,14 @@ pub fn misused(line: &[u8]) -> End
 {
     say(line);
     End::Misused
+}
+
+// The end of a program that refuses what it was asked for, with a line that says why.
+pub fn refused(line: &[u8]) -> End
+    ensures { λ r. ⌜ r ≡ Refused ⌝ }
+{
+    say(line);
+    End::Refused
 }
 
 // How a program ends by whether all of its answer was written.

@@ -1,2 +1,2 @@
--- Why every end of a program has a status of the three.
+-- Why every end of a program has a status of the four.
 pub mod Known

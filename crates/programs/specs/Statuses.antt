@@ -2,7 +2,7 @@
 use Prim.Native.Nat.{_≤_}
 use lib.IntN.{ℤ, pos, negsuc}
 
--- 0, 1 or 2
+-- 0, 1, 2 or 3
 abbrev pub IsStatus : ℤ → Type 0
-IsStatus (pos n) = n ≤ 2
+IsStatus (pos n) = n ≤ 3
 IsStatus (negsuc n) = ⊥

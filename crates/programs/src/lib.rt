@@ -17,6 +17,14 @@ pub extern "C" fn cardstate_status() -> i32
     program::status(cardstate_main::cardstate())
 }
 
+// The status of `cardimage`.
+#[no_mangle]
+pub extern "C" fn cardimage_status() -> i32
+    ensures { λ r. ⌜ IsStatus r ⌝ }
+{
+    program::status(cardimage_main::cardimage())
+}
+
 // The status of `vectors`.
 #[no_mangle]
 pub extern "C" fn vectors_status() -> i32

@@ -2,8 +2,8 @@
 
 mod instructions;
 mod program;
-mod random;
-mod texts;
+pub(crate) mod random;
+pub(crate) mod texts;
 mod values;
 #[cfg(test)]
 mod worlds;

@@ -3,7 +3,10 @@
         .text
         .globl  __start
 __start:
+        b       general                 # 80000000
+        nop
         .org    0x180
+general:
         mfc0    $k0, $13
         b       .
         nop

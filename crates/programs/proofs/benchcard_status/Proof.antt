@@ -1,4 +1,4 @@
--- The status of an end is one of the three.
+-- The status of an end is one of the four.
 use Rattle.programs.proofs.Known.{known}
 use borrow.Author.Needs.{needs}
 use Rattle.programs.proofs.benchcard_status.Statement.{statement}

@@ -1,0 +1,2 @@
+-- Which arguments the program takes.
+pub mod Arguments

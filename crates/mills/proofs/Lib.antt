@@ -1,0 +1,12 @@
+-- The proofs.
+pub mod Pages4K
+pub mod Writes
+pub mod Planned
+pub mod Ways
+pub mod There
+pub mod Grown
+pub mod Leads
+pub mod Begun
+pub mod Files
+pub mod Mills
+pub mod ByName

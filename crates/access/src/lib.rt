@@ -1,4 +1,6 @@
 // Where a step looks at memory, the fetch and the data access, and the effect that a step has: numbers only, nothing here changes memory.
+#![tactic(auto)]
+
 pub mod build; // effects
 pub mod data; // the data access
 pub mod fetch; // the fetch
@@ -8,7 +10,7 @@ use memory::{PAddr, Store};
 use tlb::{Slot, SlotWrite};
 
 // How Cpu and CP0 go on.
-#[derive(Drop)]
+#[derive(Clone, Copy)]
 pub enum Turn {
     Next,
     Branch { to: u64 },
@@ -24,7 +26,7 @@ pub enum Turn {
 }
 
 // What the fetch comes to: the word at PC, an exception, or a double match.
-#[derive(Drop)]
+#[derive(Clone, Copy)]
 pub enum Fetched {
     Word(u32),
     Raise(Exception),
@@ -32,7 +34,7 @@ pub enum Fetched {
 }
 
 // All that a step does: how it goes on, a register (0: none) and its value, a slot, a store, and the stop (0: none).
-#[derive(Drop)]
+#[derive(Clone, Copy)]
 pub struct Effect {
     pub turn: Turn,
     pub reg: usize,

@@ -1,4 +1,6 @@
 // The texts that the programs print, written into a lent buffer.
+#![tactic(auto)]
+
 mod texts;
 
 ghost use Rattle.std.specs.Prelude.{◌≡◌, ℕ, ◌+◌, ◌*◌, ◌≤◌, ◌<◌, ◌^◌, set};
@@ -15,7 +17,7 @@ pub use texts::{cardrun_text, cardstate_text, placed_text, reason_text, refusal_
 use tlb::{Slot, SlotRead};
 
 // The parts of the state, in lines.
-#[derive(Drop)]
+#[derive(Clone, Copy)]
 pub enum Part {
     NonZero,
     Registers,

@@ -1,1 +1,2 @@
 // No code: the twelve bench cards, proved of the definitions.
+#![tactic(auto)]

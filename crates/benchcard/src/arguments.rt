@@ -5,21 +5,21 @@ ghost use Rattle.benchcard.specs.Arguments as Rule;
 use program::End;
 
 // The steps that an argument asks for, or it asks for none.
-#[derive(Drop)]
+#[derive(Clone, Copy)]
 pub enum Steps {
     Are(u64),
     Wrong,
 }
 
 // The programs of bench/.
-#[derive(Drop)]
+#[derive(Clone, Copy)]
 pub enum Program {
     Sweep,
     Unaligned,
 }
 
 // The program that an argument names, or it names none.
-#[derive(Drop)]
+#[derive(Clone, Copy)]
 pub enum Named {
     Is(Program),
     Wrong,

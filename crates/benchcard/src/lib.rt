@@ -1,5 +1,7 @@
 // Runs a program of bench/ on a fresh machine for as many steps as the arguments say, and prints one number for what is left.
 // Without arguments, 1000 steps of the sweep.
+#![tactic(auto)]
+
 mod arguments;
 mod boot;
 mod line;

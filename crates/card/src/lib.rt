@@ -1,4 +1,6 @@
 // The card: the machine, one step of it, and a run.
+#![tactic(auto)]
+
 mod calls;
 mod inner;
 mod lent;
@@ -16,7 +18,7 @@ pub use runs::{run, step};
 pub use start::fresh;
 
 // The whole machine but for its memory; `tlb` holds 48 slots of four numbers.
-#[derive(Drop)]
+#[derive(Clone, Copy)]
 pub struct Machine {
     pub cpu: Cpu,
     pub cp0: Cp0,
@@ -25,7 +27,7 @@ pub struct Machine {
 }
 
 // What a step leaves besides what it is lent.
-#[derive(Drop)]
+#[derive(Clone, Copy)]
 pub struct Cored {
     pub cpu: Cpu,
     pub cp0: Cp0,
@@ -33,14 +35,14 @@ pub struct Cored {
 }
 
 // A machine after a step, and the number of document 01's table.
-#[derive(Drop)]
+#[derive(Clone, Copy)]
 pub struct Stepped {
     pub machine: Machine,
     pub stop: u8,
 }
 
 // A machine after a run, the counted steps, and the number of document 01's table.
-#[derive(Drop)]
+#[derive(Clone, Copy)]
 pub struct Ran {
     pub machine: Machine,
     pub steps: u64,

@@ -6,7 +6,7 @@ ghost use Rattle.cardimage_main.specs.Arguments as Rule;
 use program::Input;
 
 // What is wanted: an image of programs, an image of a program in Kernel mode, a symbol's value; or no word says.
-#[derive(Drop)]
+#[derive(Clone, Copy)]
 pub enum Mode {
     User,
     Kernel,

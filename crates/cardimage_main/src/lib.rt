@@ -1,4 +1,6 @@
 // Makes the image of a kernel and programs, or says why there is none, or a symbol's value.
+#![tactic(auto)]
+
 mod arguments;
 
 ghost use Rattle.std.specs.Prelude.{◌≤◌, ◌<◌};

@@ -1,4 +1,6 @@
 // Runs the image on standard input, prints the answer and says how it ended.
+#![tactic(auto)]
+
 ghost use Rattle.answer.specs.Wrote.{Wrote};
 ghost use Rattle.cardrun_main.specs.Printed.{printed};
 

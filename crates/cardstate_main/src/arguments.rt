@@ -6,7 +6,7 @@ ghost use Rattle.cardstate_main.specs.Arguments as Rule;
 use program::Input;
 
 // The interrupt lines that an argument names, or it names none.
-#[derive(Drop)]
+#[derive(Clone, Copy)]
 pub enum Lines {
     Are(u8),
     Wrong,

@@ -1,5 +1,7 @@
 // Runs the image on standard input, prints the whole state after it and says how it ended. Arguments: the interrupt lines,
 // and the boot ROM's file.
+#![tactic(auto)]
+
 mod arguments;
 
 ghost use Rattle.answer.specs.Wrote.{Wrote};

@@ -1,4 +1,6 @@
 // CP0: the kept registers, moves to and from them, the mode, exceptions, and the end of a step.
+#![tactic(auto)]
+
 mod exceptions;
 mod moves;
 mod range;
@@ -15,7 +17,7 @@ pub use tick::ended;
 use tlb::VAddr;
 
 // The registers that are kept, 0 to 6, 8 to 17 and 28 to 30, by their manual names.
-#[derive(Drop)]
+#[derive(Clone, Copy)]
 pub struct Cp0 {
     pub index: u32,
     pub random: u32,
@@ -40,7 +42,7 @@ pub struct Cp0 {
 }
 
 // The exceptions by their manual names, with what each brings along: the bad address, whether no slot matched, the unit.
-#[derive(Drop)]
+#[derive(Clone, Copy)]
 pub enum Exception {
     Int,
     Mod(VAddr),
@@ -59,14 +61,14 @@ pub enum Exception {
 }
 
 // Whether a move's value is built, or is stop 18.
-#[derive(Drop)]
+#[derive(Clone, Copy)]
 pub enum Move {
     Built,
     NotBuilt,
 }
 
 // The address that an exception leaves: none; the one of an address error; the one of a TLB exception.
-#[derive(Drop)]
+#[derive(Clone, Copy)]
 pub enum Bad {
     Nothing,
     Address(VAddr),
@@ -74,7 +76,7 @@ pub enum Bad {
 }
 
 // What an exception tells: its code, the unit for CE, whether it is a refill, and its address.
-#[derive(Drop)]
+#[derive(Clone, Copy)]
 pub struct Told {
     pub code: u32,
     pub unit: u32,

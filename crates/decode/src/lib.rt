@@ -1,4 +1,6 @@
 // Decoding: from the 32 bits of a word to an instruction by its manual name.
+#![tactic(auto)]
+
 ghost use Rattle.std.specs.Prelude.{◌≡◌};
 ghost use Rattle.decode.specs.Decode as D;
 ghost use Rattle.decode.specs.Maps.{mips3};
@@ -13,7 +15,7 @@ mod instructions; // an instruction by its entry's number
 
 use maps::{MAJOR, REGIMM, SPECIAL};
 
-#[derive(Drop)]
+#[derive(Clone, Copy)]
 pub enum LoadOp {
     LB,
     LBU,
@@ -30,7 +32,7 @@ pub enum LoadOp {
     LLD,
 }
 
-#[derive(Drop)]
+#[derive(Clone, Copy)]
 pub enum StoreOp {
     SB,
     SH,
@@ -44,7 +46,7 @@ pub enum StoreOp {
     SCD,
 }
 
-#[derive(Drop)]
+#[derive(Clone, Copy)]
 pub enum ArithmeticOp {
     ADD,
     ADDU,
@@ -58,7 +60,7 @@ pub enum ArithmeticOp {
     SLTU,
 }
 
-#[derive(Drop)]
+#[derive(Clone, Copy)]
 pub enum ArithmeticImmediateOp {
     ADDI,
     ADDIU,
@@ -68,7 +70,7 @@ pub enum ArithmeticImmediateOp {
     SLTIU,
 }
 
-#[derive(Drop)]
+#[derive(Clone, Copy)]
 pub enum LogicOp {
     AND,
     OR,
@@ -76,7 +78,7 @@ pub enum LogicOp {
     NOR,
 }
 
-#[derive(Drop)]
+#[derive(Clone, Copy)]
 pub enum LogicImmediateOp {
     ANDI,
     ORI,
@@ -84,7 +86,7 @@ pub enum LogicImmediateOp {
     LUI,
 }
 
-#[derive(Drop)]
+#[derive(Clone, Copy)]
 pub enum ShiftOp {
     SLL,
     SRL,
@@ -97,7 +99,7 @@ pub enum ShiftOp {
     DSRA32,
 }
 
-#[derive(Drop)]
+#[derive(Clone, Copy)]
 pub enum ShiftVariableOp {
     SLLV,
     SRLV,
@@ -107,7 +109,7 @@ pub enum ShiftVariableOp {
     DSRAV,
 }
 
-#[derive(Drop)]
+#[derive(Clone, Copy)]
 pub enum MultiplyOp {
     MULT,
     MULTU,
@@ -120,7 +122,7 @@ pub enum MultiplyOp {
 }
 
 // MFHI and MFLO write register rd, MTHI and MTLO read register rs.
-#[derive(Drop)]
+#[derive(Clone, Copy)]
 pub enum HiLoOp {
     MFHI,
     MTHI,
@@ -128,7 +130,7 @@ pub enum HiLoOp {
     MTLO,
 }
 
-#[derive(Drop)]
+#[derive(Clone, Copy)]
 pub enum BranchOp {
     BEQ,
     BNE,
@@ -148,19 +150,19 @@ pub enum BranchOp {
     BGEZALL,
 }
 
-#[derive(Drop)]
+#[derive(Clone, Copy)]
 pub enum JumpOp {
     J,
     JAL,
 }
 
-#[derive(Drop)]
+#[derive(Clone, Copy)]
 pub enum JumpRegisterOp {
     JR,
     JALR,
 }
 
-#[derive(Drop)]
+#[derive(Clone, Copy)]
 pub enum TrapOp {
     TGE,
     TGEU,
@@ -170,7 +172,7 @@ pub enum TrapOp {
     TNE,
 }
 
-#[derive(Drop)]
+#[derive(Clone, Copy)]
 pub enum TrapImmediateOp {
     TGEI,
     TGEIU,
@@ -180,14 +182,14 @@ pub enum TrapImmediateOp {
     TNEI,
 }
 
-#[derive(Drop)]
+#[derive(Clone, Copy)]
 pub enum SpecialOp {
     SYSCALL,
     BREAK,
     SYNC,
 }
 
-#[derive(Drop)]
+#[derive(Clone, Copy)]
 pub enum MoveOp {
     MFC0,
     DMFC0,
@@ -195,7 +197,7 @@ pub enum MoveOp {
     DMTC0,
 }
 
-#[derive(Drop)]
+#[derive(Clone, Copy)]
 pub enum TlbOp {
     TLBR,
     TLBWI,
@@ -205,7 +207,7 @@ pub enum TlbOp {
 
 // An instruction with the fields that it uses, in the manuals' groups. Numbers of registers are below 32; `offset` and
 // `immediate` are the sixteen bits as they stand in the word, `target` the twenty-six.
-#[derive(Drop)]
+#[derive(Clone, Copy)]
 pub enum Instr {
     Load {
         op: LoadOp,
@@ -302,7 +304,7 @@ pub enum Instr {
 }
 
 // What a word is: an instruction; a code of coprocessor 1 or 2; a code of COP0 that is none; or reserved.
-#[derive(Drop)]
+#[derive(Clone, Copy)]
 pub enum Decoded {
     Is(Instr),
     Coprocessor(u8),

@@ -1,4 +1,6 @@
 // What a step comes to, as numbers only: fetch and access look at memory, nothing here changes it.
+#![tactic(auto)]
+
 mod after;
 mod asked;
 mod step;
@@ -7,7 +9,7 @@ pub use after::{cp0_after, cpu_after};
 pub use step::effect_of;
 
 // What a User program may change besides the registers: PC, the pending slot and where it leads, HI, LO and the link bit.
-#[derive(Drop)]
+#[derive(Clone, Copy)]
 pub struct Cpu {
     pub pc: u64,
     pub slot: bool,

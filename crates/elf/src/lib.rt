@@ -1,4 +1,6 @@
 // A mill's program as an ELF file: what is wrong with it, its segments, what stands at each address, and its symbols.
+#![tactic(auto)]
+
 mod bytes;
 mod faults;
 mod headers;
@@ -13,14 +15,14 @@ pub use paging::pages_at;
 pub use symbols::symbol_named;
 
 // Whose addresses a file has.
-#[derive(Drop)]
+#[derive(Clone, Copy)]
 pub enum Space {
     User,
     Kernel,
 }
 
 // A program header.
-#[derive(Drop)]
+#[derive(Clone, Copy)]
 pub struct Header {
     pub kind: usize,
     pub offset: usize,
@@ -31,7 +33,7 @@ pub struct Header {
 }
 
 // The pages of a segment.
-#[derive(Drop)]
+#[derive(Clone, Copy)]
 pub struct Pages {
     pub first: usize,
     pub count: usize,
@@ -39,14 +41,14 @@ pub struct Pages {
 }
 
 // Why a file is refused, by number, and what that is about; 0 where it is not.
-#[derive(Drop)]
+#[derive(Clone, Copy)]
 pub struct Fault {
     pub number: u8,
     pub about: usize,
 }
 
 // A section header.
-#[derive(Drop)]
+#[derive(Clone, Copy)]
 pub struct Section {
     pub kind: usize,
     pub offset: usize,
@@ -55,7 +57,7 @@ pub struct Section {
 }
 
 // The value of a symbol, where there is one.
-#[derive(Drop)]
+#[derive(Clone, Copy)]
 pub enum Symbol {
     Value(usize),
     NoSymbol,

@@ -1,4 +1,6 @@
 // Execution: every instruction as a function on numbers, which is handed no memory and no TLB.
+#![tactic(auto)]
+
 mod arithmetic; // arithmetic.rt: sums, differences and comparisons
 mod load_store; // load_store.rt: addresses and alignment, what a load writes, what a store sends out
 mod logic; // logic.rt: bit by bit, and the upper immediate
@@ -23,7 +25,7 @@ use system::{move_cp0, special};
 use traps::{trap, trap_immediate};
 
 // What a CP0 instruction asks for.
-#[derive(Drop)]
+#[derive(Clone, Copy)]
 pub enum Command {
     // A move from the CP0 register `number`: the doubleword, or the low word of it, sign-extended.
     MoveFrom {
@@ -41,7 +43,7 @@ pub enum Command {
 }
 
 // What an instruction comes to: an act that CP0 and the TLB have no part in, or a command to them.
-#[derive(Drop)]
+#[derive(Clone, Copy)]
 pub enum Executed {
     Plain(Act),
     Command(Command),

@@ -1,4 +1,6 @@
 // What an instruction asks for, and the instructions that decide where control goes.
+#![tactic(auto)]
+
 mod branches; // comparisons of registers, with a slot that is taken or skipped
 mod jumps; // J, JAL, JR, JALR
 
@@ -9,7 +11,7 @@ pub use jumps::{jump, jump_register};
 use tlb::VAddr;
 
 // All that an instruction does, or asks for. Where a register is named, 0 means that none is written.
-#[derive(Drop)]
+#[derive(Clone, Copy)]
 pub enum Act {
     Nothing,
     Write { reg: usize, value: u64 },

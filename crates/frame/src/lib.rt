@@ -1,11 +1,13 @@
 // The lines of an image's text, and the frame that a line is. No machine stands here.
+#![tactic(auto)]
+
 ghost use Rattle.std.specs.Prelude.{◌≡◌, Bool, true, ℕ, ◌+◌, ◌<◌, ◌≤◌, ◌^◌, length, get_or};
 ghost use Rattle.frame.specs.Line as L;
 ghost use Rattle.frame.specs.Digits as D;
 ghost use Rattle.frame.specs.Frame as F;
 
 // What a line is: a frame by its tag, or none.
-#[derive(Drop)]
+#[derive(Clone, Copy)]
 pub enum Frame {
     Register {
         number: usize,

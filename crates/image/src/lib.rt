@@ -1,4 +1,6 @@
 // The image reader: from a text and lent RAM to a machine and a budget, or to a refusal.
+#![tactic(auto)]
+
 ghost use Rattle.std.specs.Prelude.{◌≡◌, ◌≤◌, length};
 ghost use Rattle.image.specs.Refusals.{none};
 ghost use Rattle.image.specs.Image as I;
@@ -13,14 +15,14 @@ mod refusals;
 mod zeroed;
 
 // The number of document 01's table and the line that it names; 0 and 0 where nothing is refused.
-#[derive(Drop)]
+#[derive(Clone, Copy)]
 pub struct Refusal {
     pub number: u8,
     pub line: u64,
 }
 
 // What is read besides RAM: the machine, the budget, and the refusal.
-#[derive(Drop)]
+#[derive(Clone, Copy)]
 pub struct Image {
     pub machine: Machine,
     pub budget: u64,
@@ -29,7 +31,7 @@ pub struct Image {
 }
 
 // What a frame leaves besides what it is lent.
-#[derive(Drop)]
+#[derive(Clone, Copy)]
 pub struct Acted {
     pub cpu: Cpu,
     pub cp0: Cp0,

@@ -1,4 +1,6 @@
 // Memory: RAM from physical 0, ROM from 1FC00000, both big-endian.
+#![tactic(auto)]
+
 ghost use Rattle.std.specs.Prelude.{◌≡◌, ◌+◌, ◌*◌, ◌<◌, ◌≤◌, ◌^◌, length};
 ghost use Rattle.memory.specs.Bytes as B;
 ghost use Rattle.memory.specs.Memory as M;
@@ -12,11 +14,11 @@ pub use stores::{put_bytes, sb, sd, sdl, sdr, sh, sw, swl, swr};
 pub use unaligned::{ldl, ldr, lwl, lwr};
 
 // A physical address; 36 bits are used.
-#[derive(Drop)]
+#[derive(Clone, Copy)]
 pub struct PAddr(pub u64);
 
 // The eight aligned bytes that hold an address as one number, the first byte on top: of RAM, of ROM, or there are none.
-#[derive(Drop)]
+#[derive(Clone, Copy)]
 pub enum Eight {
     Ram(u64),
     Rom(u64),
@@ -24,14 +26,14 @@ pub enum Eight {
 }
 
 // What goes out to memory: nothing, or the low `size` bytes of `value` from `to` on, the top one first.
-#[derive(Drop)]
+#[derive(Clone, Copy)]
 pub enum Store {
     Nowhere,
     Write { to: PAddr, size: u8, value: u64 },
 }
 
 // What became of a store.
-#[derive(Drop)]
+#[derive(Clone, Copy)]
 pub enum Put {
     Done,
     BusError,

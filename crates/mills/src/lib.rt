@@ -1,1 +1,2 @@
 // No code: what is proved of the images of programs is in specs and proofs.
+#![tactic(auto)]

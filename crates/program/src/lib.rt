@@ -1,4 +1,6 @@
 // How a program takes its whole input, gives its whole answer, and ends.
+#![tactic(auto)]
+
 ghost use Rattle.std.specs.Prelude.{◌≡◌};
 ghost use Rattle.program.specs.Ends.{status_of, end_of};
 ghost use Rattle.program.specs.Within.{Within};
@@ -7,7 +9,7 @@ ghost use Rattle.program.specs.declared.End.TheVariants.{Unread, Unwritten, Misu
 use libc::{STDERR_FILENO, STDOUT_FILENO};
 
 // How a program ends.
-#[derive(Drop)]
+#[derive(Clone, Copy)]
 pub enum End {
     Answered,
     Unread,
@@ -17,7 +19,7 @@ pub enum End {
 }
 
 // What was read: so many bytes, after which the input or the room ended; or reading failed.
-#[derive(Drop)]
+#[derive(Clone, Copy)]
 pub enum Input {
     Bytes(usize),
     Failed,

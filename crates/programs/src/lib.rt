@@ -1,4 +1,6 @@
 // The programs as functions that return the status they end with.
+#![tactic(auto)]
+
 ghost use Rattle.programs.specs.Statuses.{IsStatus};
 
 // The status of `cardrun`.

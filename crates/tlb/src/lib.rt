@@ -1,4 +1,6 @@
 // Virtual addresses: the map of segments, and the TLB of 48 double entries.
+#![tactic(auto)]
+
 mod page_mask;
 mod probing;
 mod range;
@@ -17,11 +19,11 @@ pub use slots::{put_slot, read_slot, slot_at, stored};
 pub use through::mapped;
 
 // A virtual address.
-#[derive(Drop)]
+#[derive(Clone, Copy)]
 pub struct VAddr(pub u64);
 
 // Which map of segments holds: User mode, Kernel mode, or Kernel mode with ERL set.
-#[derive(Drop)]
+#[derive(Clone, Copy)]
 pub enum Mode {
     User,
     Kernel,
@@ -29,7 +31,7 @@ pub enum Mode {
 }
 
 // A slot as it is kept: PageMask; page (bits 31..13), G (bit 12) and ASID (7..0); and the two halves' frame, C, D and V.
-#[derive(Drop)]
+#[derive(Clone, Copy)]
 pub struct Slot {
     pub mask: u64,
     pub hi: u64,
@@ -38,14 +40,14 @@ pub struct Slot {
 }
 
 // What a step writes to the TLB: nothing, or a slot from values as they were moved to PageMask, EntryHi, EntryLo0 and EntryLo1.
-#[derive(Drop)]
+#[derive(Clone, Copy)]
 pub enum SlotWrite {
     Keep,
     Put { index: usize, moved: Slot },
 }
 
 // Which slots match an address.
-#[derive(Drop)]
+#[derive(Clone, Copy)]
 pub enum Found {
     Absent,
     One(usize),
@@ -53,7 +55,7 @@ pub enum Found {
 }
 
 // The half that an address was led through: its slot, 0 for EntryLo0 or 1 for EntryLo1, C bits, and whether it is dirty.
-#[derive(Drop)]
+#[derive(Clone, Copy)]
 pub struct Half {
     pub slot: usize,
     pub odd: u64,
@@ -62,7 +64,7 @@ pub struct Half {
 }
 
 // Where a virtual address leads.
-#[derive(Drop)]
+#[derive(Clone, Copy)]
 pub enum Where {
     Mapped(PAddr, Half),
     Unmapped(PAddr),
@@ -73,14 +75,14 @@ pub enum Where {
 }
 
 // What TLBP finds: what Index becomes, or two slots that match.
-#[derive(Drop)]
+#[derive(Clone, Copy)]
 pub enum Probe {
     Index(u64),
     Double,
 }
 
 // What TLBR finds: values for PageMask, EntryHi, EntryLo0 and EntryLo1, or no such slot.
-#[derive(Drop)]
+#[derive(Clone, Copy)]
 pub enum SlotRead {
     Is(Slot),
     Nothing,

@@ -5,7 +5,7 @@ use crate::many;
 use crate::many::SPACE;
 
 // The interrupt lines that a header names, or it is no header.
-#[derive(Drop)]
+#[derive(Clone, Copy)]
 pub enum Lines {
     Are(u8),
     Wrong,

@@ -1,5 +1,7 @@
 // Runs many images and prints what each leaves: first the fresh machine's whole state, then of each image the lines that differ from it.
 // Standard input holds for each image a line `# NAME LINES ROM`, then its text; a ROM is a file of that name, and `-` is none.
+#![tactic(auto)]
+
 mod answers;
 mod differing;
 mod ends;

@@ -1,4 +1,6 @@
 // The arithmetic of words and doublewords, on the numbers that registers hold.
+#![tactic(auto)]
+
 mod comparisons; // comparisons.rt: SLT and the trap comparisons
 mod logic; // logic.rt: AND, OR, XOR, NOR and LUI
 mod products; // products.rt: MULT and its kin
@@ -16,14 +18,14 @@ pub use shifts::{dsll, dsll32, dsra, dsra32, dsrl, dsrl32, sll, sra, srl};
 pub use sums::{add, addu, dadd, daddu, dsub, dsubu, sub, subu};
 
 // A sum or difference that is tested for overflow: its value, or none.
-#[derive(Drop)]
+#[derive(Clone, Copy)]
 pub enum Sum {
     Fits(u64),
     Overflow,
 }
 
 // What goes to HI and LO.
-#[derive(Drop)]
+#[derive(Clone, Copy)]
 pub struct HiLo {
     pub hi: u64,
     pub lo: u64,

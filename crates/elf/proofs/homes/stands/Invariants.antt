@@ -1,0 +1,16 @@
+-- The invariant: the headers that are left give what all headers give.
+use Prim.Native.Nat.{◌+◌, ◌<◌}
+use mathlib.Core.Path.{◌≡◌, sym, ◌∙◌}
+use native.Mathlib.Omega.{arith}
+use borrow.Author.Rules.{rules}
+use Rattle.elf.specs.Header.{count}
+use Rattle.elf.specs.Home.{stands_from, stands}
+use Rattle.elf.proofs.Turns.{stands_turn, stands_done}
+use Rattle.elf.proofs.Laws.{covers_on}
+use Rattle.elf.proofs.homes.stands.Given as goal
+
+abbrev pub invariant-loop-left : goal.invariant-loop-left
+invariant-loop-left l = (l.i + l.left ≡ count l.file) × ((count l.file < 65536) × (stands_from l.space l.file l.a (count l.file) 0 ≡ stands_from l.space l.file l.a l.left l.i))
+
+abbrev pub decreases-loop-left : goal.decreases-loop-left
+decreases-loop-left l = l.left

@@ -1,0 +1,16 @@
+-- The invariant: the bytes of the name that are left agree where all do.
+use Prim.Native.Nat.{◌+◌, ◌-◌, ◌≤◌, ◌^◌}
+use mathlib.Core.Path.{◌≡◌, sym, ◌∙◌}
+use native.Mathlib.Omega.{arith}
+use borrow.Author.Tests.{eq-eqb, ne_eqb}
+use borrow.Author.Rules.{rules}
+use lib.ListN.{length, drop}
+use Rattle.elf.specs.Symbol.{same_from}
+use Rattle.elf.proofs.Turns.{same_start, same_turn, same_done}
+use Rattle.elf.proofs.symbols.same_from.Given as goal
+
+abbrev pub invariant-loop-i : goal.invariant-loop-i
+invariant-loop-i l = (l.i ≤ length l.name) × ((length l.name ≤ 2 ^ 40) × ((l.at ≤ 2 ^ 40) × (same_from l.file l.at l.name ≡ same_from l.file (l.at + l.i) (drop l.i l.name))))
+
+abbrev pub decreases-loop-i : goal.decreases-loop-i
+decreases-loop-i l = length l.name - l.i

@@ -1,0 +1,17 @@
+-- The invariant: the digits that are left, after the number so far, make the whole number.
+use Prim.Native.Nat.{◌≤◌, ◌<◌, ◌+◌, ◌-◌, ◌*◌, ◌^◌}
+use mathlib.Core.Path.{◌≡◌, refl, sym, ap, ◌∙◌}
+use native.Mathlib.Nat.{one-le-pow}
+use native.Mathlib.Omega.{arith}
+use borrow.Author.Rules.{rules}
+use lib.ListN.{length, get_or}
+use Rattle.frame.specs.Digits.{digit, number, number_from}
+use Rattle.frame.proofs.Laws.{number_next, number_end, room_next, room}
+use Rattle.frame.proofs.number.Given as goal
+
+abbrev pub invariant-loop-left : goal.invariant-loop-left
+invariant-loop-left l =
+    (l.left ≤ 16) × ((l.place + l.left ≡ l.at + l.many) × ((l.at + l.many ≤ 80) × ((l.v < 16 ^ (16 - l.left)) × (number l.line l.at l.many ≡ number_from l.line l.place l.left l.v))))
+
+abbrev pub decreases-loop-left : goal.decreases-loop-left
+decreases-loop-left l = l.left

@@ -1,0 +1,13 @@
+-- The digits of the whole product are its halves.
+use Rattle.std.proofs.Common.{◌*◌, pos, sym, ◌∙◌, w64, rules}
+use Rattle.word.specs.Product.{halves, product_unsigned}
+use Rattle.word.proofs.Registers.{low_whole}
+use Rattle.word.proofs.ProductLaws.{long_halves}
+use Rattle.word.proofs.products.dmultu.Goals as goal
+
+pub returns : goal.returns
+unfolding product_unsigned
+returns c = (goal.at.returns c).Start in
+    c.long_product.ensures
+    ∙ long_halves s.args.a s.args.b s.ranges.a.fits s.ranges.b.fits
+    ∙ (λ i. halves w64 (pos (sym (low_whole s.args.a s.ranges.a) i * sym (low_whole s.args.b s.ranges.b) i)))

@@ -1,0 +1,19 @@
+-- The division of whole registers is that of their low bits.
+use Rattle.std.proofs.Common.{◌/◌, ◌%◌, sym, refl, ◌∙◌, div-le_self, arith, w64, rules}
+use native.Mathlib.Nat.{mod-le}
+use Rattle.word.specs.Extend.{extend}
+use Rattle.word.proofs.Registers.{whole, low_whole}
+use Rattle.word.proofs.QuotientLaws.{by_zero_unsigned, gives_unsigned}
+use Rattle.word.proofs.quotients.ddivu.Goals as goal
+
+pub returns-then-b-eq0 : goal.returns-then-b-eq0
+returns-then-b-eq0 c = (goal.at.returns-then-b-eq0 c).Start in
+    by_zero_unsigned w64 s.args.a s.args.b _ _ _ c.by_zero.ensures (omega (arith, c.if-b-eq0.true)) (whole s.args.a s.ranges.a.fits) refl
+
+pub returns : goal.returns
+returns c = (goal.at.returns c).Start in
+    let a = s.args.a in
+    let b = s.args.b in
+    gives_unsigned w64 a b _ _ (λ e. c.if-b-eq0.false (sym (low_whole b s.ranges.b) ∙ e))
+    (whole (a % b) (omega (arith, mod-le a b)) ∙ (λ i. extend w64 (sym (low_whole a s.ranges.a) i % sym (low_whole b s.ranges.b) i)))
+    (whole (a / b) (omega (arith, div-le_self a b)) ∙ (λ i. extend w64 (sym (low_whole a s.ranges.a) i / sym (low_whole b s.ranges.b) i)))

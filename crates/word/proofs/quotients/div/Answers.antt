@@ -1,0 +1,43 @@
+-- The signed type divides as the rule says, where the quotient fits; the least number by -1 is computed.
+use Rattle.std.proofs.Common.{◌≡◌, ◌-◌, ◌^◌, ◌<◌, leb, ℤ, sym, ap, ◌∙◌, ⊎_elim, w32, SFits, to_z, of_z, rules}
+use lib.Signed.{quot_z}
+use Rattle.word.specs.Extend.{low, signed, register}
+use Rattle.word.specs.Quotient.{divided}
+use Rattle.word.proofs.QuotientLaws.{by_zero_lem, of_patterns, asks, gives}
+use Rattle.word.proofs.quotients.div.Goals as goal
+use Rattle.word.proofs.quotients.div.Goals.{Joined-by-eq4294967295}
+
+-- the divisor is not 0, and the two are not the least number and -1
+module _ (c : Joined-by-eq4294967295) where
+  abbrev start : tie.Start
+  start = c.Start
+
+  other : low w32 start.args.b ≡ 0 → ⊥
+  other e = c.if-by-eq0.false (c.low_word-by.ensures ∙ e)
+
+  not_least : low w32 start.args.a ≡ 2 ^ 31 → low w32 start.args.b ≡ 2 ^ 32 - 1 → ⊥
+  not_least p q = ⊎_elim (λ w. w.1.left (c.low_word-low.ensures ∙ p)) (λ w. w.left (c.low_word-by.ensures ∙ q)) c.if-by-eq4294967295.branch
+
+  division : (x y : ℤ) → x ≡ signed w32 start.args.a → y ≡ signed w32 start.args.b
+      → (0 < of_z w32 y) × SFits w32 (quot_z (to_z w32 (of_z w32 x)) (to_z w32 (of_z w32 y)))
+  division x y ex ey = asks w32 start.args.a start.args.b x y ex ey other not_least
+
+pub returns-then-by-eq0 : goal.returns-then-by-eq0
+returns-then-by-eq0 c = (goal.at.returns-then-by-eq0 c).Then-by-eq0 in let s = t.before.before.before in
+    by_zero_lem w32 s.args.a s.args.b _ _ _ c.by_zero.ensures (sym t.before.low-word2.ensures ∙ t.if1.true)
+    c.extend.ensures (ap (leb (2 ^ 31)) t.before.before.low_word.ensures)
+
+pub returns-then-low-eq2147483648 : goal.returns-then-low-eq2147483648
+unfolding divided register
+returns-then-low-eq2147483648 c = of_patterns w32 c.args.a c.args.b (2 ^ 31) (2 ^ 32 - 1) (sym c.low_word-low.ensures ∙ c.if-low-eq2147483648.true) (sym c.low_word-by.ensures ∙ c.if-by-eq4294967295.true)
+
+pub nonzero_rem-x : goal.nonzero_rem-x
+nonzero_rem-x c = division (goal.at.nonzero_rem-x c).Joined-by-eq4294967295 _ _ c.signed32-x.ensures c.signed32-y.ensures
+
+pub nonzero_div-x : goal.nonzero_div-x
+nonzero_div-x c = division (goal.at.nonzero_div-x c).Joined-by-eq4294967295 _ _ c.signed32-x.ensures c.signed32-y.ensures
+
+pub returns : goal.returns
+returns c = (goal.at.returns c).Joined-by-eq4294967295 in
+    gives w32 j.before.before.before.before.args.a j.before.before.before.before.args.b _ _ c.signed32-x.ensures c.signed32-y.ensures
+    (other j) (not_least j) _ _ c.pattern32.ensures c.pattern32-2.ensures

@@ -1,0 +1,243 @@
+#!/usr/bin/env python3
+"""Turns each proofs/F/Proof.antt of a crate that walks Tie's goals into Invariants.antt and Answers.antt.
+
+usage: python3 tools/answers.py CRATE NAMES.json [FUNCTION..]   (NAMES.json: of rt check --generated DIR --old-names in the crate's folder)
+"""
+import json
+import os
+import re
+import sys
+
+NAME = r"[^\s(){}.;,@\"«»]+"
+
+
+def norm(s):
+    return re.sub(r"^(overflow|nonzero|slice_bounds|bounds|offset_bounds)_", "", s.replace("-", "_"))
+
+
+def places_of(info):
+    by, order = {}, []
+    for row, new in zip(info["places"], info["places_by_name"]):
+        by[row[0]] = {"old": row[0], "new": new, "up": row[1], "step": row[2], "fields": dict(row[4])}
+        order.append(row[0])
+    return by
+
+
+def find_place(by, word):
+    for p in by.values():
+        if word == p["new"] or word == p["old"] or norm(word) == norm(p["old"]):
+            return p["old"]
+    return None
+
+
+class Text:
+    def __init__(self, info, label=None):
+        self.info, self.by, self.label = info, places_of(info), label
+        self.used = set()
+        self.hard = []
+
+    def typed(self, place, step):
+        names = [r[0] for r in self.info["places"]]
+        for var, s in self.info["typed"][names.index(place)]:
+            if norm(s) == norm(step):
+                return var
+        return None
+
+    def chains(self, text, env, goal):
+        # aliases first
+        while True:
+            m = re.search(rf"\blet ({NAME}) = ({NAME})((?:\.before)*) in\s*", text)
+            hit = None
+            for m in re.finditer(rf"\blet ({NAME}) = ({NAME})((?:\.before)*) in\s*", text):
+                if m[2] in env:
+                    hit = m
+                    break
+            if not hit:
+                break
+            cur = env[hit[2]][1]
+            for _ in range(hit[3].count("before")):
+                cur = cur and self.by[cur]["up"]
+            env[hit[1]] = (env[hit[2]][0], cur)
+            text = text[: hit.start()] + text[hit.end() :]
+
+        def one(m):
+            var, comps = m[1], [x for x in m[2].split(".") if x]
+            if var not in env:
+                return m[0]
+            root, cur = env[var]
+            climbed = False
+            while comps and comps[0] == "before" and cur:
+                cur, comps, climbed = self.by[cur]["up"], comps[1:], True
+            if cur is None:
+                self.hard.append(m[0])
+                return m[0]
+            if not comps:
+                if goal:
+                    self.used.add(self.by[cur]["new"])
+                    return f"(goal.at.{self.label} {root}).{self.by[cur]['new']}"
+                return root + ".before" * 0 if cur == env[root][1] else f"{root}.{self.by[cur]['new']}"
+            p = self.by[cur]
+            step, rest = comps[0], comps[1:]
+            if step in ("args", "requires", "ranges"):
+                return ".".join([root] + comps)
+            if rest and rest[0] == "given":
+                var2 = self.typed(env[root][1], step)
+                if var2:
+                    return ".".join([root, "type_inv", var2] + rest[1:])
+            at = cur
+            while at and norm(self.by[at]["step"][0]) != norm(step):
+                at = self.by[at]["up"]
+            if not at:
+                self.hard.append(m[0])
+                return ".".join([root] + comps)
+            p = self.by[at]
+            if rest:
+                f = {"taken": "true", "left": "false", "inv": "invariant"}.get(rest[0], rest[0])
+                rest = [p["fields"].get(f, f)] + rest[1:]
+            return ".".join([root, p["step"][1]] + rest)
+
+        return re.sub(rf"(?<![\w.'₀-₉-])([^\s(){{}}.;,@\"«»]+)((?:\.[^\s(){{}}.;,@\"«»]+)*)", one, text)
+
+
+def chunks(text):
+    out = []
+    for part in re.split(r"\n\s*\n", text.strip("\n")):
+        first = part.split("\n")[0]
+        if out and first.startswith(" "):
+            out[-1] += "\n\n" + part
+        else:
+            out.append(part)
+    return out
+
+
+def convert(crate, folder, info, landed=None):
+    path = f"crates/{crate}/proofs/{folder}"
+    text = open(f"{path}/Proof.antt", encoding="utf-8").read()
+    if "tie.close" not in text:
+        return "no tie.close"
+    dots = folder.replace("/", ".")
+    parts = chunks(text)
+    needs = info["needs"]
+    head, body = parts[0], parts[1:]
+    if ":" in head and " : " in head:
+        return "odd head"
+    comment = [l for l in head.split("\n") if l.startswith("--")]
+    uses = [l for l in head.split("\n") if l.startswith("use ") and not re.search(r"\.(Statement|Tie)\b", l)]
+    inv, ans, hard, places = [], [], [], set()
+    loops = {norm(l[0][0]): l for l in info["loops"]}
+    for part in body:
+        if "tie.close" in part:
+            continue
+        lines = part.split("\n")
+        k = 0
+        while lines[k].startswith("--"):
+            k += 1
+        sig = lines[k]
+        note = "\n".join(lines[:k]) + ("\n" if k else "")
+        m = re.match(rf"^(?:abbrev )?(?:pub )?({NAME}) : tie\.(Need-)?({NAME})(.*)$", sig)
+        if m and not m[2]:
+            kind = "invariant" if re.match(r"(invariant|InvT)-", m[3]) else "decreases" if re.match(r"(decreases|MeasureT)-", m[3]) else None
+            loop = loops.get(norm(re.sub(r"^(invariant|InvT|decreases|MeasureT)-", "", m[3])))
+            if not kind or not loop:
+                hard.append(sig)
+                inv.append(part)
+                continue
+            i = info["loops"].index(loop)
+            old, new, names = loop[0][0], loop[0][1], loop[1]
+            changed = info["changed"][i]
+            full = [("l." if not c else "l.initial.") + n for n, c in zip(names, changed)] + ["l." + n for n, c in zip(names, changed) if c]
+            rest = "\n".join(lines[k + 1 :])
+            q = re.match(rf"^((?:unfolding[^\n]*\n)?){re.escape(m[1])}((?: {NAME})*) =(.*)$", rest, re.S)
+            if not q:
+                hard.append("args of " + sig)
+                inv.append(part)
+                continue
+            params = q[2].split()
+            if len(params) != len(full):
+                hard.append(f"{len(params)} of {len(full)} args: {sig}")
+            env = dict(zip(params, full))
+            b = re.sub(rf"(?<![\w.'₀-₉?-])({NAME})(?=((?:\.[^\s(){{}};,]+)*))", lambda z: env.get(z[1], z[1]), q[3])
+            word = f"{kind}-{new}"
+            inv.append(f"{note}abbrev pub {word} : goal.{word}\n{q[1]}{word} l ={b}")
+            continue
+        if m:
+            want = norm(re.sub(r"^(overflow|nonzero|slice-bounds|bounds|offset-bounds)-", "", m[3]))
+            hit = [i for i, (o, n) in enumerate(needs) if norm(o) == want or norm(o) == m[3].replace("-", "_")]
+            if not hit:
+                hard.append("no goal " + m[3])
+                ans.append("-- LEFT\n" + part)
+                continue
+            i = hit[0]
+            new, place = needs[i][1], info["asked_at"][i][0]
+            rest = "\n".join(lines[k + 1 :])
+            q = re.match(rf"^((?:unfolding[^\n]*\n)?)\s*{re.escape(m[1])}((?: {NAME}| \([^()]*\))*) =(.*)$", rest, re.S)
+            if not q:
+                hard.append("body of " + sig)
+                ans.append("-- LEFT\n" + part)
+                continue
+            args = q[2].split()
+            if q[3].strip() == "search rules":
+                continue
+            t = Text(info, new)
+            b = t.chains(q[3], {args[0]: (args[0], place)}, True)
+            hard += [f"{new}: {h}" for h in t.hard]
+            ans.append(f"{note}pub {new} : goal.{new}\n{q[1]}{new} {args[0]} ={b}")
+            continue
+        # a helper
+        env = {}
+        def typ(z):
+            p = find_place(places_of(info), z[2])
+            if p:
+                env[z[1]] = (z[1], p)
+                places.add(places_of(info)[p]["new"])
+                return f"({z[1]} : {places_of(info)[p]['new']})"
+            hard.append("helper " + z[0])
+            return z[0]
+        t = Text(info)
+        b = re.sub(rf"\(({NAME}) : tie\.({NAME})\)", typ, part)
+        for z in re.finditer(rf"^(\s*)({NAME}) : tie\.({NAME})\n(\s*)\2 =", b, re.M):
+            p = find_place(places_of(info), z[3])
+            if p:
+                places.add(places_of(info)[p]["new"])
+                b = b.replace(f"{z[2]} : tie.{z[3]}", f"{z[2]} : {places_of(info)[p]['new']}")
+                env.setdefault(z[2], (z[2], p))
+        b2 = b
+        if env:
+            lines2 = []
+            for line in b.split("\n"):
+                lines2.append(line if re.match(rf"^\s*(module |{NAME}( \(.*\))* : )", line) and "(" in line and ": " in line and " = " not in line and False else t.chains(line, dict(env), False))
+            b2 = "\n".join(lines2)
+        if "tie." in b2:
+            hard.append("tie in helper")
+        hard += t.hard
+        ans.append(b2)
+    if not any(re.match(r"(--[^\n]*\n)*pub ", a) for a in ans) and not any("-- LEFT" in a for a in ans):
+        ans = []
+    base = f"Rattle.{crate}.proofs.{dots}"
+    os.remove(f"{path}/Proof.antt")
+    if inv:
+        with open(f"{path}/Invariants.antt", "w", encoding="utf-8") as f:
+            f.write("\n".join(comment + [u for u in uses if "rules" not in u or True] + [f"use {base}.Given as goal", ""]) + "\n" + "\n\n".join(inv) + "\n")
+    if ans:
+        extra = [f"use {base}.Goals.{{{', '.join(sorted(places))}}}"] if places else []
+        with open(f"{path}/Answers.antt", "w", encoding="utf-8") as f:
+            f.write("\n".join((comment if not inv else comment) + uses + [f"use {base}.Goals as goal"] + extra + [""]) + "\n" + "\n\n".join(ans) + "\n")
+    if not os.listdir(path):
+        os.rmdir(path)
+    return hard
+
+
+def main():
+    crate, names, only = sys.argv[1], json.load(open(sys.argv[2])), sys.argv[3:]
+    for key, info in names.items():
+        if not key.endswith(".Lts") or "needs" not in info:
+            continue
+        folder = key[len(f"Rattle-{crate}-proofs.") : -len(".Lts")].replace(".", "/")
+        if only and folder not in only or not os.path.exists(f"crates/{crate}/proofs/{folder}/Proof.antt"):
+            continue
+        hard = convert(crate, folder, info)
+        if hard:
+            print(f"left: {folder}: {hard}")
+
+
+main()

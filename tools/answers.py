@@ -17,8 +17,8 @@ def norm(s):
 
 def places_of(info):
     by, order = {}, []
-    for row, new in zip(info["places"], info["places_by_name"]):
-        by[row[0]] = {"old": row[0], "new": new, "up": row[1], "step": row[2], "fields": dict(row[4])}
+    for row, new, told in zip(info["places"], info["places_by_name"], info["clauses"]):
+        by[row[0]] = {"clauses": told, "old": row[0], "new": new, "up": row[1], "step": row[2], "fields": dict(row[4])}
         order.append(row[0])
     return by
 
@@ -92,8 +92,14 @@ class Text:
                 return ".".join([root] + comps)
             p = self.by[at]
             if rest:
-                f = {"taken": "true", "left": "false", "inv": "invariant"}.get(rest[0], rest[0])
+                f = {"taken": "true", "left": "false", "inv": "invariant", "type-inv": "type_inv"}.get(rest[0], rest[0])
                 rest = [p["fields"].get(f, f)] + rest[1:]
+                told = p["clauses"]
+                if rest[0] == "ensures" and told and told["fields"]:
+                    if len(told["fields"]) == 1 and not told["text"]:
+                        rest[1:1] = told["fields"]
+                    elif len(rest) > 1 and rest[1].isdigit() and int(rest[1]) < len(told["fields"]):
+                        rest[1] = told["fields"][int(rest[1])]
             return ".".join([root, p["step"][1]] + rest)
 
         return re.sub(rf"(?<![\w.'₀-₉-])([^\s(){{}}.;,@\"«»]+)((?:\.[^\s(){{}}.;,@\"«»]+)*)", one, text)
@@ -147,7 +153,7 @@ def convert(crate, folder, info, landed=None):
             changed = info["changed"][i]
             full = [("l." if not c else "l.initial.") + n for n, c in zip(names, changed)] + ["l." + n for n, c in zip(names, changed) if c]
             rest = "\n".join(lines[k + 1 :])
-            q = re.match(rf"^((?:unfolding[^\n]*\n)?){re.escape(m[1])}((?: {NAME})*) =(.*)$", rest, re.S)
+            q = re.match(rf"^((?:unfolding[^\n]*\n)?){re.escape(m[1])}((?: (?!=){NAME})*?) =(.*)$", rest, re.S)
             if not q:
                 hard.append("args of " + sig)
                 inv.append(part)
@@ -170,7 +176,7 @@ def convert(crate, folder, info, landed=None):
             i = hit[0]
             new, place = needs[i][1], info["asked_at"][i][0]
             rest = "\n".join(lines[k + 1 :])
-            q = re.match(rf"^((?:unfolding[^\n]*\n)?)\s*{re.escape(m[1])}((?: {NAME}| \([^()]*\))*) =(.*)$", rest, re.S)
+            q = re.match(rf"^((?:unfolding[^\n]*\n)?)\s*{re.escape(m[1])}((?: (?!=)(?:{NAME}|\([^()]*\)))*?) =(.*)$", rest, re.S)
             if not q:
                 hard.append("body of " + sig)
                 ans.append("-- LEFT\n" + part)

@@ -16,7 +16,7 @@ module _ (c : After-long_product-p) where
   same : pos magnitudes ≡ signed w64 c.args.a *ℤ signed w64 c.args.b
       → c.long_product-p.result ≡ product w64 c.args.a c.args.b
   unfolding product
-  same e = c.long_product-p.ensures ∙ long_halves _ _ c.magnitude.type-inv c.magnitude-2.type-inv ∙ ap (halves w64) e
+  same e = c.long_product-p.ensures ∙ long_halves _ _ c.magnitude.type_inv c.magnitude-2.type_inv ∙ ap (halves w64) e
 
   turned : (r : HiLo) → r ≡ halves w64 (neg_ℤ (pos (c.long_product-p.result.hi * 2 ^ 64 + c.long_product-p.result.lo)))
       → neg_ℤ (pos magnitudes) ≡ signed w64 c.args.a *ℤ signed w64 c.args.b

@@ -7,7 +7,6 @@ use Rattle.word.proofs.products.dmultu.Goals as goal
 
 pub returns : goal.returns
 unfolding product_unsigned
-returns c = (goal.at.returns c).Start in
-    c.long_product.ensures
-    ∙ long_halves s.args.a s.args.b s.ranges.a.fits s.ranges.b.fits
-    ∙ (λ i. halves w64 (pos (sym (low_whole s.args.a s.ranges.a) i * sym (low_whole s.args.b s.ranges.b) i)))
+returns c = c.long_product.ensures
+    ∙ long_halves c.args.a c.args.b c.ranges.a.fits c.ranges.b.fits
+    ∙ (λ i. halves w64 (pos (sym (low_whole c.args.a c.ranges.a) i * sym (low_whole c.args.b c.ranges.b) i)))

@@ -7,9 +7,8 @@ use Rattle.word.proofs.products.mult.Goals as goal
 
 pub returns : goal.returns
 unfolding product
-returns c = (goal.at.returns c).Start in
-    let ex = c.extend.ensures in
+returns c = let ex = c.extend.ensures in
     let ey = c.extend-2.ensures in
     c.word_halves.ensures
-    ∙ halves_cut w32 (signed w32 s.args.a *ℤ signed w32 s.args.b) _
-    (c.wrapped_product.ensures ∙ (λ i. ex i * ey i % 2 ^ 64) ∙ extended_product s.args.a s.args.b)
+    ∙ halves_cut w32 (signed w32 c.args.a *ℤ signed w32 c.args.b) _
+    (c.wrapped_product.ensures ∙ (λ i. ex i * ey i % 2 ^ 64) ∙ extended_product c.args.a c.args.b)

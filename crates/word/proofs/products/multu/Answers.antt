@@ -7,8 +7,7 @@ use Rattle.word.proofs.products.multu.Goals as goal
 
 pub returns : goal.returns
 unfolding product_unsigned
-returns c = (goal.at.returns c).Start in
-    let ex = c.low_word.ensures in
+returns c = let ex = c.low_word.ensures in
     let ey = c.low_word-2.ensures in
     c.word_halves.ensures
-    ∙ halves_cut w32 (unsigned w32 s.args.a *ℤ unsigned w32 s.args.b) _ (c.wrapped_product.ensures ∙ (λ i. ex i * ey i % 2 ^ 64))
+    ∙ halves_cut w32 (unsigned w32 c.args.a *ℤ unsigned w32 c.args.b) _ (c.wrapped_product.ensures ∙ (λ i. ex i * ey i % 2 ^ 64))

@@ -7,13 +7,11 @@ use Rattle.word.proofs.QuotientLaws.{by_zero_unsigned, gives_unsigned}
 use Rattle.word.proofs.quotients.ddivu.Goals as goal
 
 pub returns-then-b-eq0 : goal.returns-then-b-eq0
-returns-then-b-eq0 c = (goal.at.returns-then-b-eq0 c).Start in
-    by_zero_unsigned w64 s.args.a s.args.b _ _ _ c.by_zero.ensures (omega (arith, c.if-b-eq0.true)) (whole s.args.a s.ranges.a.fits) refl
+returns-then-b-eq0 c = by_zero_unsigned w64 c.args.a c.args.b _ _ _ c.by_zero.ensures (omega (arith, c.if-b-eq0.true)) (whole c.args.a c.ranges.a.fits) refl
 
 pub returns : goal.returns
-returns c = (goal.at.returns c).Start in
-    let a = s.args.a in
-    let b = s.args.b in
-    gives_unsigned w64 a b _ _ (λ e. c.if-b-eq0.false (sym (low_whole b s.ranges.b) ∙ e))
-    (whole (a % b) (omega (arith, mod-le a b)) ∙ (λ i. extend w64 (sym (low_whole a s.ranges.a) i % sym (low_whole b s.ranges.b) i)))
-    (whole (a / b) (omega (arith, div-le_self a b)) ∙ (λ i. extend w64 (sym (low_whole a s.ranges.a) i / sym (low_whole b s.ranges.b) i)))
+returns c = let a = c.args.a in
+    let b = c.args.b in
+    gives_unsigned w64 a b _ _ (λ e. c.if-b-eq0.false (sym (low_whole b c.ranges.b) ∙ e))
+    (whole (a % b) (omega (arith, mod-le a b)) ∙ (λ i. extend w64 (sym (low_whole a c.ranges.a) i % sym (low_whole b c.ranges.b) i)))
+    (whole (a / b) (omega (arith, div-le_self a b)) ∙ (λ i. extend w64 (sym (low_whole a c.ranges.a) i / sym (low_whole b c.ranges.b) i)))

@@ -4,4 +4,4 @@ use Rattle.word.proofs.SumLaws.{sum_is}
 use Rattle.word.proofs.sums.addu.Goals as goal
 
 pub returns : goal.returns
-returns c = c.extend.ensures ∙ sum_is 32 w32 c.args.a c.args.b _ c.wrapping_add_u64.ensures
+returns c = c.extend.ensures ∙ sum_is 32 w32 c.args.a c.args.b _ c.wrapping_add_u64.ensures.value

@@ -5,4 +5,4 @@ use Rattle.word.proofs.SumLaws.{difference_is}
 use Rattle.word.proofs.sums.dsubu.Goals as goal
 
 pub returns : goal.returns
-returns c = whole _ c.wrapping_sub_u64.type-inv ∙ difference_is 0 w64 c.args.a c.args.b _ c.wrapping_sub_u64.ensures
+returns c = whole _ c.wrapping_sub_u64.type_inv ∙ difference_is 0 w64 c.args.a c.args.b _ c.wrapping_sub_u64.ensures.value

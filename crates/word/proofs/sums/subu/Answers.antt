@@ -4,4 +4,4 @@ use Rattle.word.proofs.SumLaws.{difference_is}
 use Rattle.word.proofs.sums.subu.Goals as goal
 
 pub returns : goal.returns
-returns c = c.extend.ensures ∙ difference_is 32 w32 c.args.a c.args.b _ c.wrapping_sub_u64.ensures
+returns c = c.extend.ensures ∙ difference_is 32 w32 c.args.a c.args.b _ c.wrapping_sub_u64.ensures.value

@@ -17,8 +17,8 @@ def norm(s):
 
 def places_of(info):
     by, order = {}, []
-    for row, new, told in zip(info["places"], info["places_by_name"], info["clauses"]):
-        by[row[0]] = {"clauses": told, "old": row[0], "new": new, "up": row[1], "step": row[2], "fields": dict(row[4])}
+    for row, new, told, arm in zip(info["places"], info["places_by_name"], info["clauses"], info["arms"]):
+        by[row[0]] = {"clauses": told, "arm": arm, "old": row[0], "new": new, "up": row[1], "step": row[2], "fields": dict(row[4])}
         order.append(row[0])
     return by
 
@@ -72,14 +72,24 @@ class Text:
                 self.hard.append(m[0])
                 return m[0]
             if not comps:
+                if goal and cur == env[root][1] and var == root:
+                    return root
                 if goal:
                     self.used.add(self.by[cur]["new"])
                     return f"(goal.at.{self.label} {root}).{self.by[cur]['new']}"
                 return root + ".before" * 0 if cur == env[root][1] else f"{root}.{self.by[cur]['new']}"
             p = self.by[cur]
             step, rest = comps[0], comps[1:]
-            if step in ("args", "requires", "ranges"):
-                return ".".join([root] + comps)
+            if step in ("args", "requires", "ranges", "fits"):
+                return ".".join([root, "ranges" if step == "fits" else step] + rest)
+            path = ["given" if x == "given" else x for x in rest]
+            up = cur
+            while up and rest:
+                arm = self.by[up]["arm"]
+                for field, from_step, from_path in arm[2] if arm else []:
+                    if from_path and norm(from_step) == norm(step) and path[: len(from_path)] == from_path:
+                        return ".".join([root, arm[0], field] + rest[len(from_path) :])
+                up = self.by[up]["up"]
             if rest and rest[0] == "given":
                 var2 = self.typed(env[root][1], step)
                 if var2:
@@ -169,6 +179,8 @@ def convert(crate, folder, info, landed=None):
         if m:
             want = norm(re.sub(r"^(overflow|nonzero|slice-bounds|bounds|offset-bounds)-", "", m[3]))
             hit = [i for i, (o, n) in enumerate(needs) if norm(o) == want or norm(o) == m[3].replace("-", "_")]
+            if not hit and part.rstrip().endswith("= search rules") and "unfolding" not in part:
+                continue
             if not hit:
                 hard.append("no goal " + m[3])
                 ans.append("-- LEFT\n" + part)
@@ -182,11 +194,12 @@ def convert(crate, folder, info, landed=None):
                 ans.append("-- LEFT\n" + part)
                 continue
             args = q[2].split()
-            if q[3].strip() == "search rules":
+            if q[3].strip() == "search rules" and not q[1]:
                 continue
             t = Text(info, new)
             b = t.chains(q[3], {args[0]: (args[0], place)}, True)
             hard += [f"{new}: {h}" for h in t.hard]
+            places |= t.used
             ans.append(f"{note}pub {new} : goal.{new}\n{q[1]}{new} {args[0]} ={b}")
             continue
         # a helper
@@ -201,6 +214,14 @@ def convert(crate, folder, info, landed=None):
             return z[0]
         t = Text(info)
         b = re.sub(rf"\(({NAME}) : tie\.({NAME})\)", typ, part)
+        for z in list(re.finditer(rf"^ +(?:abbrev )?({NAME}) : tie\.{NAME}\n +\1 = ({NAME})((?:\.before)*)\n+", b, re.M)):
+            if z[2] in env:
+                cur = env[z[2]][1]
+                for _ in range(z[3].count("before")):
+                    cur = cur and t.by[cur]["up"]
+                if cur:
+                    env[z[1]] = (z[2], cur)
+                    b = b.replace(z[0], "")
         for z in re.finditer(rf"^(\s*)({NAME}) : tie\.({NAME})\n(\s*)\2 =", b, re.M):
             p = find_place(places_of(info), z[3])
             if p:

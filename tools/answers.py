@@ -12,7 +12,7 @@ NAME = r"[^\s(){}.;,@\"«»]+"
 
 
 def norm(s):
-    return re.sub(r"^(overflow|nonzero|slice_bounds|bounds|offset_bounds)_", "", s.replace("-", "_"))
+    return re.sub(r"_lem(?=\d*$)", "", re.sub(r"^(overflow|nonzero|slice_bounds|bounds|offset_bounds)_", "", s.replace("-", "_")))
 
 
 def places_of(info):

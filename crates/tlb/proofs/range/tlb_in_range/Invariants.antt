@@ -1,0 +1,14 @@
+-- The invariant: what is left to test gives the whole answer (`EachSlot`).
+use Prim.Native.Nat.{◌-◌, ◌≤◌}
+use mathlib.Core.Path.{◌≡◌, refl, sym, ◌∙◌}
+use native.Mathlib.Omega.{arith}
+use Rattle.tlb.specs.Range.{slots_in_range, tlb_in_range}
+use Rattle.tlb.proofs.EachSlot.{each_next, each_out, each_end}
+use borrow.Author.Rules.{rules}
+use Rattle.tlb.proofs.range.tlb_in_range.Given as goal
+
+abbrev pub invariant-loop-i : goal.invariant-loop-i
+invariant-loop-i l = (l.i ≤ 48) × (slots_in_range (48 - l.i) l.i l.tlb ≡ tlb_in_range l.tlb)
+
+abbrev pub decreases-loop-i : goal.decreases-loop-i
+decreases-loop-i l = 48 - l.i

@@ -3,7 +3,7 @@ use Rattle.std.specs.Prelude.{◌≡◌, refl, ℕ, ◌+◌, ◌*◌, ◌<◌, �
 use Rattle.std.proofs.Common.{mod-lt, pow_pos, arith}
 use Rattle.promise.specs.Bits.{bits}
 use Rattle.decode.specs.Fields.{opcode, rs, rt, rd, sa, funct, immediate, target}
-use Rattle.decode.specs.Maps.{Entry, Major, majors, specials, regimms, mips3}
+use Rattle.decode.specs.Maps.{Entry, majors, specials, regimms, mips3}
 use Rattle.decode.specs.Maps.Major.{SPECIAL, REGIMM, own}
 use Rattle.decode.specs.Maps.Entry.{reserved}
 use Rattle.decode.specs.Decode.{entry_in, by_major}

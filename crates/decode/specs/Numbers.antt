@@ -30,7 +30,6 @@ use Rattle.decode.specs.declared.TrapOp.{TrapOp}
 use Rattle.decode.specs.declared.TrapOp.TheVariants.{TGE, TGEU, TLT, TLTU, TEQ, TNE}
 use Rattle.decode.specs.declared.TrapImmediateOp.{TrapImmediateOp}
 use Rattle.decode.specs.declared.TrapImmediateOp.TheVariants.{TGEI, TGEIU, TLTI, TLTIU, TEQI, TNEI}
-use Rattle.decode.specs.declared.SpecialOp.{SpecialOp}
 use Rattle.decode.specs.declared.SpecialOp.TheVariants.{SYSCALL, BREAK, SYNC}
 use Rattle.promise.specs.Pick.{pick}
 use Rattle.decode.specs.Maps.{Entry, Major}

@@ -6,7 +6,7 @@ use Rattle.decode.specs.declared.ArithmeticOp.TheVariants.{ADDU}
 use Rattle.decode.specs.declared.ArithmeticImmediateOp.TheVariants.{ADDIU}
 use Rattle.decode.specs.declared.MoveOp.TheVariants.{MFC0}
 use Rattle.decode.specs.declared.SpecialOp.TheVariants.{SYNC}
-use Rattle.decode.specs.Maps.{majors, specials, regimms}
+use Rattle.decode.specs.Maps.{majors, specials}
 use Rattle.decode.specs.Decode.{decode, decode_by, entry_in, by_major, cop0, operation, move}
 
 -- the image's two instructions, ADDIU r8, r0, 5 and ADDU r9, r8, r8 (I16)

@@ -1,5 +1,4 @@
 -- The number stands for the word's entry, and the instruction is that entry's.
-use borrow.Author.Rules.{rules}
 use mathlib.Core.Path.{ap, ◌∙◌}
 use Rattle.decode.specs.Decode.{instruction, decode_by}
 use Rattle.decode.proofs.decode.Goals as goal

@@ -1,6 +1,5 @@
 -- Bit 25 picks the operation or the move.
 use borrow.Author.Tests.{eq-eqb, ne_eqb}
-use borrow.Author.Rules.{rules}
 use Rattle.decode.specs.Decode.{cop0}
 use Rattle.decode.proofs.cop0.cop0.Goals as goal
 

@@ -1,0 +1,8 @@
+-- LLAddr alone is set.
+use Rattle.cp0.specs.Registers.{linked, set}
+use Rattle.std.proofs.Common.{rules}
+use Rattle.cp0.proofs.registers.linked.Goals as goal
+
+pub returns : goal.returns
+unfolding linked set
+returns c = simp c.low.ensures

@@ -82,7 +82,7 @@ class Text:
             step, rest = comps[0], comps[1:]
             if step in ("args", "requires", "ranges", "fits"):
                 return ".".join([root, "ranges" if step == "fits" else step] + rest)
-            path = ["given" if x == "given" else x for x in rest]
+            path = rest
             up = cur
             while up and rest:
                 arm = self.by[up]["arm"]

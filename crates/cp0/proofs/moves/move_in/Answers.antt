@@ -18,4 +18,4 @@ returns-in-30 c = sym (ap (λ (n : ℕ). move_in c.args.cp0 n c.args.value) c.in
 
 pub returns-in_default : goal.returns-in_default
 unfolding move_in set
-returns-in_default c = simp (ne_eqb _ _ c.in_default.rest.0.0.1, ne_eqb _ _ c.in_default.rest.0.1, ne_eqb _ _ c.in_default.rest.1, c.low.ensures, c.move_word.ensures)
+returns-in_default c = simp (ne_eqb _ _ c.in_default.in_default-own.rest.0.0.1, ne_eqb _ _ c.in_default.in_default-own.rest.0.1, ne_eqb _ _ c.in_default.in_default-own.rest.1, c.low.ensures, c.move_word.ensures)

@@ -21,4 +21,4 @@ returns-in-30 c = sym (ap (λ (n : ℕ). move_out c.args.cp0 c.args.lines n) c.i
 
 pub returns-in_default : goal.returns-in_default
 unfolding move_out
-returns-in_default c = simp (ne_eqb _ _ c.in_default.rest.0.0.0.1, ne_eqb _ _ c.in_default.rest.0.0.1, ne_eqb _ _ c.in_default.rest.0.1, ne_eqb _ _ c.in_default.rest.1, c.word_of.ensures, c.wide.ensures, c.extend.ensures)
+returns-in_default c = simp (ne_eqb _ _ c.in_default.in_default-own.rest.0.0.0.1, ne_eqb _ _ c.in_default.in_default-own.rest.0.0.1, ne_eqb _ _ c.in_default.in_default-own.rest.0.1, ne_eqb _ _ c.in_default.in_default-own.rest.1, c.word_of.ensures, c.wide.ensures, c.extend.ensures)

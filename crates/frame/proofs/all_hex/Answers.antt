@@ -1,11 +1,7 @@
 -- The invariant: what is left of the line has only digits exactly where the whole line has.
-use Prim.Native.Nat.{◌≤◌, ◌-◌}
-use mathlib.Core.Path.{◌≡◌, refl, sym, ap, ◌∙◌}
+use mathlib.Core.Path.{refl, sym, ap, ◌∙◌}
 use native.Mathlib.Omega.{arith}
-use borrow.Author.Rules.{rules}
-use borrow.Author.Tests.{not-true, not-false}
-use lib.ListN.{length, drop}
-use Rattle.frame.specs.Digits.{all_hex, hex?}
+use Rattle.frame.specs.Digits.{hex?}
 use Rattle.frame.proofs.Laws.{all_next, all_not, all_end}
 use Rattle.frame.proofs.all_hex.Goals as goal
 
@@ -16,13 +12,13 @@ pub returns-then-not-hex : goal.returns-then-not-hex
 returns-then-not-hex c =
     sym
     (c.loop-i.invariant.1
-    ∙ all_not _ _ c.loop-i-test.true (ap hex? (sym c.character.ensures) ∙ sym c.hex.ensures ∙ not-true _ c.if-not-hex.true-raw))
+    ∙ all_not _ _ c.loop-i-test.true (ap hex? (sym c.character.ensures) ∙ sym c.hex.ensures ∙ c.if-not-hex.true))
 
 pub loop-i-preserved : goal.loop-i-preserved
 loop-i-preserved c = (
   omega arith,
   c.loop-i.invariant.1
-      ∙ all_next _ _ c.loop-i-test.true (ap hex? (sym c.character.ensures) ∙ sym c.hex.ensures ∙ not-false _ c.if-not-hex.false-raw),
+      ∙ all_next _ _ c.loop-i-test.true (ap hex? (sym c.character.ensures) ∙ sym c.hex.ensures ∙ c.if-not-hex.false),
 )
 
 pub returns : goal.returns

@@ -1,12 +1,8 @@
 -- The invariant: what is left of the line has only digits exactly where the whole line has.
 use Prim.Native.Nat.{◌≤◌, ◌-◌}
-use mathlib.Core.Path.{◌≡◌, refl, sym, ap, ◌∙◌}
-use native.Mathlib.Omega.{arith}
-use borrow.Author.Rules.{rules}
-use borrow.Author.Tests.{not-true, not-false}
+use mathlib.Core.Path.{◌≡◌}
 use lib.ListN.{length, drop}
-use Rattle.frame.specs.Digits.{all_hex, hex?}
-use Rattle.frame.proofs.Laws.{all_next, all_not, all_end}
+use Rattle.frame.specs.Digits.{all_hex}
 use Rattle.frame.proofs.all_hex.Given as goal
 
 abbrev pub invariant-loop-i : goal.invariant-loop-i

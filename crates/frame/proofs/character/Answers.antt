@@ -1,7 +1,6 @@
 -- A byte fits 64 bits, and past its end a list reads 0.
-use mathlib.Core.Path.{◌≡◌, refl, sym}
+use mathlib.Core.Path.{refl, sym}
 use native.Mathlib.Omega.{arith}
-use borrow.Author.Rules.{rules}
 use lib.ListN.{get_or-eq_default}
 use Rattle.frame.proofs.character.Goals as goal
 

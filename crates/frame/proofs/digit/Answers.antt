@@ -1,7 +1,5 @@
 -- Each way out has the tests that decide which digit it is.
-use mathlib.Core.Path.{◌≡◌, refl}
 use native.Mathlib.Omega.{arith}
-use borrow.Author.Rules.{rules}
 use borrow.Author.Tests.{le-leb, lt-leb}
 use Rattle.frame.specs.Digits.{digit}
 use Rattle.frame.proofs.digit.Goals as goal

@@ -1,7 +1,6 @@
 -- Each way out has the tests of the tags before it, in the definition's order.
 use Rattle.frame.specs.Frame.{framed}
-use mathlib.Core.Path.{◌≡◌, refl, sym, ap, ◌∙◌}
-use borrow.Author.Rules.{rules}
+use mathlib.Core.Path.{sym, ◌∙◌}
 use Rattle.frame.proofs.framed.Goals as goal
 
 pub returns-then-tagged : goal.returns-then-tagged

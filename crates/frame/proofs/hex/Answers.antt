@@ -1,5 +1,4 @@
 -- Each way out has the tests that decide whether the character is a digit.
-use mathlib.Core.Path.{◌≡◌, refl, sym, ap, ◌∙◌}
 use native.Mathlib.Omega.{arith}
 use borrow.Author.Tests.{le-leb, lt-leb}
 use Rattle.frame.specs.Digits.{hex?}

@@ -1,12 +1,7 @@
 -- The invariant: what was passed, with the line of what is left, is the line of the whole text.
-use Prim.Native.Nat.{◌≤◌, ◌-◌}
-use mathlib.Core.List.{◌++◌}
-use mathlib.Core.Path.{◌≡◌, refl, sym, ap, ◌∙◌}
+use mathlib.Core.Path.{refl, sym, ◌∙◌}
 use native.Mathlib.Omega.{arith}
-use borrow.Author.Rules.{rules}
-use lib.ListN.{length, take, drop}
 use lib.Seq.{length-take-le}
-use Rattle.frame.specs.Line.{line_of}
 use Rattle.frame.proofs.Laws.{line_next, line_here, line_end}
 use Rattle.frame.proofs.next_line.Goals as goal
 
@@ -14,11 +9,11 @@ pub loop-i-init : goal.loop-i-init
 loop-i-init c = (omega arith, refl)
 
 pub slice_bounds-result-end : goal.slice_bounds-result-end
-slice_bounds-result-end c = sym (length-take-le _ _ c.loop.invariant.0)
+slice_bounds-result-end c = sym (length-take-le _ _ c.loop-i.invariant.0)
 
 pub returns-then-rest-i-eq-LF : goal.returns-then-rest-i-eq-LF
 returns-then-rest-i-eq-LF c =
-    (sym (c.loop.invariant.1 ∙ line_here _ _ c.loop-test.true c.if1.true), refl)
+    (sym (c.loop-i.invariant.1 ∙ line_here _ _ c.loop-i-test.true c.if-rest-i-eq-LF.true), refl)
 
 pub loop-i-preserved : goal.loop-i-preserved
 loop-i-preserved c =

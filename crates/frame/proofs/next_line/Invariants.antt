@@ -1,13 +1,9 @@
 -- The invariant: what was passed, with the line of what is left, is the line of the whole text.
 use Prim.Native.Nat.{◌≤◌, ◌-◌}
 use mathlib.Core.List.{◌++◌}
-use mathlib.Core.Path.{◌≡◌, refl, sym, ap, ◌∙◌}
-use native.Mathlib.Omega.{arith}
-use borrow.Author.Rules.{rules}
+use mathlib.Core.Path.{◌≡◌}
 use lib.ListN.{length, take, drop}
-use lib.Seq.{length-take-le}
 use Rattle.frame.specs.Line.{line_of}
-use Rattle.frame.proofs.Laws.{line_next, line_here, line_end}
 use Rattle.frame.proofs.next_line.Given as goal
 
 abbrev pub invariant-loop-i : goal.invariant-loop-i

@@ -1,11 +1,10 @@
 -- The invariant: the digits that are left, after the number so far, make the whole number.
-use Prim.Native.Nat.{◌≤◌, ◌<◌, ◌+◌, ◌-◌, ◌*◌, ◌^◌}
+use Prim.Native.Nat.{◌<◌, ◌+◌, ◌-◌, ◌*◌, ◌^◌}
 use mathlib.Core.Path.{◌≡◌, refl, sym, ap, ◌∙◌}
 use native.Mathlib.Nat.{one-le-pow}
 use native.Mathlib.Omega.{arith}
-use borrow.Author.Rules.{rules}
-use lib.ListN.{length, get_or}
-use Rattle.frame.specs.Digits.{digit, number, number_from}
+use lib.ListN.{get_or}
+use Rattle.frame.specs.Digits.{digit, number}
 use Rattle.frame.proofs.Laws.{number_next, number_end, room_next, room}
 use Rattle.frame.proofs.number.Goals as goal
 

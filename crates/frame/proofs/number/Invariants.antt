@@ -1,12 +1,7 @@
 -- The invariant: the digits that are left, after the number so far, make the whole number.
-use Prim.Native.Nat.{◌≤◌, ◌<◌, ◌+◌, ◌-◌, ◌*◌, ◌^◌}
-use mathlib.Core.Path.{◌≡◌, refl, sym, ap, ◌∙◌}
-use native.Mathlib.Nat.{one-le-pow}
-use native.Mathlib.Omega.{arith}
-use borrow.Author.Rules.{rules}
-use lib.ListN.{length, get_or}
-use Rattle.frame.specs.Digits.{digit, number, number_from}
-use Rattle.frame.proofs.Laws.{number_next, number_end, room_next, room}
+use Prim.Native.Nat.{◌≤◌, ◌<◌, ◌+◌, ◌-◌, ◌^◌}
+use mathlib.Core.Path.{◌≡◌}
+use Rattle.frame.specs.Digits.{number, number_from}
 use Rattle.frame.proofs.number.Given as goal
 
 abbrev pub invariant-loop-left : goal.invariant-loop-left

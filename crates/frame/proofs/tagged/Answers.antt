@@ -1,7 +1,6 @@
 -- The length is tested first; then the tag is the number of the first two digits.
 use Rattle.frame.specs.Frame.{tagged}
 use borrow.Author.Tests.{eq-eqb, ne_eqb}
-use borrow.Author.Rules.{rules}
 use Rattle.frame.proofs.tagged.Goals as goal
 
 pub returns-then-line-digits : goal.returns-then-line-digits

@@ -1,11 +1,8 @@
 -- The invariant: a segment is among the headers that are left where one is among all.
 use Prim.Native.Nat.{◌+◌, ◌<◌}
-use mathlib.Core.Path.{◌≡◌, sym, ◌∙◌}
-use native.Mathlib.Omega.{arith}
-use borrow.Author.Rules.{rules}
+use mathlib.Core.Path.{◌≡◌}
 use Rattle.elf.specs.Header.{count}
 use Rattle.elf.specs.Faults.{any_segment}
-use Rattle.elf.proofs.Turns.{any_turn, any_done}
 use Rattle.elf.proofs.faults.any_segment.Given as goal
 
 abbrev pub invariant-loop-left : goal.invariant-loop-left

@@ -1,7 +1,6 @@
 -- The remainder is tested first, then the segments.
 use mathlib.Core.Path.{sym}
 use borrow.Author.Tests.{eq-eqb, ne_eqb}
-use borrow.Author.Rules.{rules}
 use Rattle.elf.specs.Faults.{enters}
 use Rattle.elf.proofs.faults.enters.Goals as goal
 

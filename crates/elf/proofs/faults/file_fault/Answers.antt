@@ -1,7 +1,6 @@
 -- The four parts stand in the definition's order.
 use mathlib.Core.Path.{sym, ◌∙◌}
 use borrow.Author.Tests.{eq-eqb, ne_eqb}
-use borrow.Author.Rules.{rules}
 use Rattle.elf.specs.Faults.{file_fault}
 use Rattle.elf.proofs.faults.file_fault.Goals as goal
 

@@ -1,6 +1,5 @@
 -- A header that is no segment has no fault.
 use mathlib.Core.Path.{sym, ◌∙◌}
-use borrow.Author.Rules.{rules}
 use Rattle.elf.specs.Faults.{header_fault}
 use Rattle.elf.proofs.faults.header_fault.Goals as goal
 

@@ -1,11 +1,8 @@
 -- The invariant: a segment that is left covers the address where one of all does.
 use Prim.Native.Nat.{◌+◌, ◌<◌}
-use mathlib.Core.Path.{◌≡◌, sym, ◌∙◌}
-use native.Mathlib.Omega.{arith}
-use borrow.Author.Rules.{rules}
+use mathlib.Core.Path.{◌≡◌}
 use Rattle.elf.specs.Header.{count}
 use Rattle.elf.specs.Faults.{in_segment}
-use Rattle.elf.proofs.Turns.{in_turn, in_done}
 use Rattle.elf.proofs.faults.in_segment.Given as goal
 
 abbrev pub invariant-loop-left : goal.invariant-loop-left

@@ -1,6 +1,5 @@
 -- Of the two homes.
 use mathlib.Core.Path.{sym}
-use borrow.Author.Rules.{rules}
 use Rattle.elf.proofs.faults.overlap.Goals as goal
 
 pub returns : goal.returns

@@ -1,9 +1,6 @@
 -- The invariant: the headers that are left give what all lower ones give.
-use Prim.Native.Nat.{◌+◌, ◌≤◌}
-use mathlib.Core.Path.{◌≡◌, refl, sym, ◌∙◌}
+use mathlib.Core.Path.{refl, sym, ◌∙◌}
 use native.Mathlib.Omega.{arith}
-use borrow.Author.Rules.{rules}
-use Rattle.elf.specs.Faults.{overlaps}
 use Rattle.elf.proofs.Turns.{overlaps_turn, overlaps_done}
 use Rattle.elf.proofs.faults.overlaps.Goals as goal
 

@@ -1,10 +1,7 @@
 -- The invariant: the headers that are left give what all lower ones give.
 use Prim.Native.Nat.{◌+◌, ◌≤◌}
-use mathlib.Core.Path.{◌≡◌, refl, sym, ◌∙◌}
-use native.Mathlib.Omega.{arith}
-use borrow.Author.Rules.{rules}
+use mathlib.Core.Path.{◌≡◌}
 use Rattle.elf.specs.Faults.{overlaps}
-use Rattle.elf.proofs.Turns.{overlaps_turn, overlaps_done}
 use Rattle.elf.proofs.faults.overlaps.Given as goal
 
 abbrev pub invariant-loop-left : goal.invariant-loop-left

@@ -1,7 +1,6 @@
 -- The file is tested first, then the entry point.
 use mathlib.Core.Path.{sym, ◌∙◌}
 use borrow.Author.Tests.{eq-eqb, ne_eqb}
-use borrow.Author.Rules.{rules}
 use Rattle.elf.specs.Faults.{program_fault}
 use Rattle.elf.proofs.faults.program_fault.Goals as goal
 

@@ -1,7 +1,6 @@
 -- The five tests stand in the definition's order.
 use mathlib.Core.Path.{sym, ◌∙◌}
 use borrow.Author.Tests.{le-leb, lt-leb}
-use borrow.Author.Rules.{rules}
 use Rattle.elf.specs.Faults.{segment_fault}
 use Rattle.elf.proofs.faults.segment_fault.Goals as goal
 

@@ -1,11 +1,7 @@
 -- The invariant: the first fault of the headers that are left is that of all headers.
-use Prim.Native.Nat.{◌+◌, ◌<◌}
-use mathlib.Core.Path.{◌≡◌, sym, ◌∙◌}
+use mathlib.Core.Path.{sym, ◌∙◌}
 use native.Mathlib.Omega.{arith}
 use borrow.Author.Tests.{eq-eqb, ne_eqb}
-use borrow.Author.Rules.{rules}
-use Rattle.elf.specs.Header.{count}
-use Rattle.elf.specs.Faults.{segments_fault}
 use Rattle.elf.proofs.Turns.{segments_turn, segments_done}
 use Rattle.elf.proofs.faults.segments_fault.Goals as goal
 

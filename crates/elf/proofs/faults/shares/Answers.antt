@@ -1,6 +1,5 @@
 -- Each begins below the other's end.
 use borrow.Author.Tests.{le-ltb, lt-ltb}
-use borrow.Author.Rules.{rules}
 use Rattle.elf.specs.Faults.{shares}
 use Rattle.elf.proofs.faults.shares.Goals as goal
 

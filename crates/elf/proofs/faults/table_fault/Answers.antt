@@ -1,7 +1,6 @@
 -- The three tests stand in the definition's order.
 use mathlib.Core.Path.{sym}
 use borrow.Author.Tests.{eq-eqb, le-leb, lt-leb, ne_eqb}
-use borrow.Author.Rules.{rules}
 use Rattle.elf.specs.Faults.{table_fault}
 use Rattle.elf.proofs.faults.table_fault.Goals as goal
 

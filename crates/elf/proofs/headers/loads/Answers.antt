@@ -1,7 +1,6 @@
 -- The type is tested first, then whether notes cover it.
 use mathlib.Core.Path.{sym, ◌∙◌}
 use borrow.Author.Tests.{eq-eqb, ne_eqb}
-use borrow.Author.Rules.{rules}
 use Rattle.elf.specs.Header.{loads}
 use Rattle.elf.proofs.headers.loads.Goals as goal
 

@@ -1,7 +1,6 @@
 -- The two sizes are compared first, then the reach with the end.
 use mathlib.Core.Path.{sym}
 use borrow.Author.Tests.{le-leb, lt-leb}
-use borrow.Author.Rules.{rules}
 use Rattle.elf.specs.Header.{only_notes}
 use Rattle.elf.proofs.headers.only_notes.Goals as goal
 

@@ -1,9 +1,6 @@
 -- The invariant: the headers that are left raise the reach so far to that of all headers.
-use Prim.Native.Nat.{◌+◌, ◌<◌, ◌^◌}
-use mathlib.Core.Path.{◌≡◌, sym, ◌∙◌}
+use mathlib.Core.Path.{sym, ◌∙◌}
 use native.Mathlib.Omega.{arith}
-use borrow.Author.Rules.{rules}
-use Rattle.elf.specs.Header.{count, reach_from}
 use Rattle.elf.proofs.Turns.{reach_turn, reach_done}
 use Rattle.elf.proofs.headers.reach.Goals as goal
 

@@ -1,7 +1,6 @@
 -- A byte of the file, or 0 in the tail.
 use mathlib.Core.Path.{sym}
 use borrow.Author.Tests.{le-ltb, lt-ltb}
-use borrow.Author.Rules.{rules}
 use Rattle.elf.specs.Home.{byte_of}
 use Rattle.elf.proofs.homes.byte_of.Goals as goal
 

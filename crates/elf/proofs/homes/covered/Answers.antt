@@ -1,6 +1,5 @@
 -- The home is the header's.
 use mathlib.Core.Path.{sym}
-use borrow.Author.Rules.{rules}
 use Rattle.elf.proofs.homes.covered.Goals as goal
 
 pub returns : goal.returns

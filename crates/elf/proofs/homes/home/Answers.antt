@@ -6,8 +6,8 @@ use Rattle.elf.proofs.homes.home.Goals as goal
 
 pub returns-in-User : goal.returns-in-User
 unfolding home
-returns-in-User c = (simp c.enum_told-1.given.1, search rules)
+returns-in-User c = (simp c.in-User.is, search rules)
 
 pub returns-in-Kernel : goal.returns-in-Kernel
 unfolding home
-returns-in-Kernel c = (simp (c.enum_told-in-Kernel-1.given.1, sym c.physical.ensures.0), search rules)
+returns-in-Kernel c = (simp (c.in-Kernel.is, sym c.physical.ensures.0), search rules)

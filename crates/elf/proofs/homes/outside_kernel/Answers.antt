@@ -1,7 +1,6 @@
 -- The lower bound is tested first, then the end.
 use mathlib.Core.Path.{sym}
 use borrow.Author.Tests.{le-ltb, lt-ltb}
-use borrow.Author.Rules.{rules}
 use Rattle.elf.specs.Home.{outside_kernel}
 use Rattle.elf.proofs.homes.outside_kernel.Goals as goal
 

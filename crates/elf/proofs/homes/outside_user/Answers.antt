@@ -1,6 +1,5 @@
 -- The sum of two words does not wrap.
 use mathlib.Core.Path.{refl}
-use borrow.Author.Rules.{rules}
 use Rattle.elf.specs.Home.{outside_user}
 use Rattle.elf.proofs.homes.outside_user.Goals as goal
 

@@ -1,10 +1,7 @@
 -- The invariant: the headers that are left give what all headers give.
-use Prim.Native.Nat.{◌+◌, ◌<◌}
-use mathlib.Core.Path.{◌≡◌, sym, ◌∙◌}
+use mathlib.Core.Path.{sym, ◌∙◌}
 use native.Mathlib.Omega.{arith}
-use borrow.Author.Rules.{rules}
-use Rattle.elf.specs.Header.{count}
-use Rattle.elf.specs.Home.{stands_from, stands}
+use Rattle.elf.specs.Home.{stands}
 use Rattle.elf.proofs.Turns.{stands_turn, stands_done}
 use Rattle.elf.proofs.Laws.{covers_on}
 use Rattle.elf.proofs.homes.stands.Goals as goal

@@ -1,12 +1,8 @@
 -- The invariant: the headers that are left give what all headers give.
 use Prim.Native.Nat.{◌+◌, ◌<◌}
-use mathlib.Core.Path.{◌≡◌, sym, ◌∙◌}
-use native.Mathlib.Omega.{arith}
-use borrow.Author.Rules.{rules}
+use mathlib.Core.Path.{◌≡◌}
 use Rattle.elf.specs.Header.{count}
-use Rattle.elf.specs.Home.{stands_from, stands}
-use Rattle.elf.proofs.Turns.{stands_turn, stands_done}
-use Rattle.elf.proofs.Laws.{covers_on}
+use Rattle.elf.specs.Home.{stands_from}
 use Rattle.elf.proofs.homes.stands.Given as goal
 
 abbrev pub invariant-loop-left : goal.invariant-loop-left

@@ -1,6 +1,5 @@
 -- The lower bound is tested first, then the end.
 use borrow.Author.Tests.{le-leb, lt-leb}
-use borrow.Author.Rules.{rules}
 use Rattle.elf.specs.Home.{within}
 use Rattle.elf.proofs.homes.within.Goals as goal
 

@@ -1,5 +1,4 @@
 -- They end by page 2^22, since a header's fields are words.
-use borrow.Author.Rules.{rules}
 use native.Mathlib.Omega.{arith}
 use mathlib.Core.Path.{sym, ◌∙◌}
 use Rattle.elf.specs.Pages.{pages_of, spans}

@@ -1,7 +1,6 @@
 -- The section is tested first, then the type.
 use mathlib.Core.Path.{sym}
 use borrow.Author.Tests.{eq-eqb, ne_eqb}
-use borrow.Author.Rules.{rules}
 use Rattle.elf.specs.Symbol.{defined}
 use Rattle.elf.proofs.symbols.defined.Goals as goal
 

@@ -1,7 +1,6 @@
 -- The end, the ending 0 and the bytes are tested in the definition's order.
 use mathlib.Core.Path.{sym}
 use borrow.Author.Tests.{eq-eqb, le-ltb, lt-ltb, ne_eqb}
-use borrow.Author.Rules.{rules}
 use Rattle.elf.specs.Symbol.{named}
 use Rattle.elf.proofs.symbols.named.Goals as goal
 

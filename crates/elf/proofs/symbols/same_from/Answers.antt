@@ -1,11 +1,7 @@
 -- The invariant: the bytes of the name that are left agree where all do.
-use Prim.Native.Nat.{◌+◌, ◌-◌, ◌≤◌, ◌^◌}
-use mathlib.Core.Path.{◌≡◌, sym, ◌∙◌}
+use mathlib.Core.Path.{sym, ◌∙◌}
 use native.Mathlib.Omega.{arith}
 use borrow.Author.Tests.{eq-eqb, ne_eqb}
-use borrow.Author.Rules.{rules}
-use lib.ListN.{length, drop}
-use Rattle.elf.specs.Symbol.{same_from}
 use Rattle.elf.proofs.Turns.{same_start, same_turn, same_done}
 use Rattle.elf.proofs.symbols.same_from.Goals as goal
 

@@ -1,7 +1,6 @@
 -- The size is tested first, then the end.
 use mathlib.Core.Path.{sym}
 use borrow.Author.Tests.{eq-eqb, ne_eqb}
-use borrow.Author.Rules.{rules}
 use Rattle.elf.specs.Symbol.{sectioned}
 use Rattle.elf.proofs.symbols.sectioned.Goals as goal
 

@@ -1,7 +1,6 @@
 -- The link is tested first.
 use mathlib.Core.Path.{sym}
 use borrow.Author.Tests.{le-ltb, lt-ltb}
-use borrow.Author.Rules.{rules}
 use Rattle.elf.specs.Symbol.{symbol_by}
 use Rattle.elf.proofs.symbols.symbol_by.Goals as goal
 

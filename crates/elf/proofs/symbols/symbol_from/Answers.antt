@@ -1,10 +1,6 @@
 -- The invariant: the first symbol of those that are left is that of all.
-use Prim.Native.Nat.{◌+◌, ◌*◌, ◌≤◌, ◌^◌}
-use mathlib.Core.Path.{◌≡◌, refl, sym, ◌∙◌}
+use mathlib.Core.Path.{refl, sym, ◌∙◌}
 use native.Mathlib.Omega.{arith}
-use borrow.Author.Rules.{rules}
-use lib.ListN.{length}
-use Rattle.elf.specs.Symbol.{symbol_from}
 use Rattle.elf.proofs.Turns.{symbol_turn, symbol_done}
 use Rattle.elf.proofs.symbols.symbol_from.Goals as goal
 

@@ -1,11 +1,8 @@
 -- The invariant: the first symbol of those that are left is that of all.
 use Prim.Native.Nat.{◌+◌, ◌*◌, ◌≤◌, ◌^◌}
-use mathlib.Core.Path.{◌≡◌, refl, sym, ◌∙◌}
-use native.Mathlib.Omega.{arith}
-use borrow.Author.Rules.{rules}
+use mathlib.Core.Path.{◌≡◌}
 use lib.ListN.{length}
 use Rattle.elf.specs.Symbol.{symbol_from}
-use Rattle.elf.proofs.Turns.{symbol_turn, symbol_done}
 use Rattle.elf.proofs.symbols.symbol_from.Given as goal
 
 abbrev pub invariant-loop-left : goal.invariant-loop-left

@@ -1,7 +1,6 @@
 -- The two bounds of the name are tested first, then the sections.
 use mathlib.Core.Path.{sym, ◌∙◌}
 use borrow.Author.Tests.{le-leb, lt-leb}
-use borrow.Author.Rules.{rules}
 use Rattle.elf.specs.Symbol.{symbol_named}
 use Rattle.elf.proofs.Laws.{some_leb, empty_leb}
 use Rattle.elf.proofs.symbols.symbol_named.Goals as goal

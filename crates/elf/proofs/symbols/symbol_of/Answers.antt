@@ -1,12 +1,7 @@
 -- The invariant: the first section of symbols of those that are left is that of all.
-use Prim.Native.Nat.{◌+◌, ◌<◌, ◌≤◌, ◌^◌}
-use mathlib.Core.Path.{◌≡◌, sym, ◌∙◌}
+use mathlib.Core.Path.{sym, ◌∙◌}
 use native.Mathlib.Omega.{arith}
 use borrow.Author.Tests.{eq-eqb, ne_eqb}
-use borrow.Author.Rules.{rules}
-use lib.ListN.{length}
-use Rattle.elf.specs.Bytes.{half}
-use Rattle.elf.specs.Symbol.{symbol_of}
 use Rattle.elf.proofs.Turns.{section_turn, section_done}
 use Rattle.elf.proofs.symbols.symbol_of.Goals as goal
 

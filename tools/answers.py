@@ -126,6 +126,22 @@ def chunks(text):
     return out
 
 
+def split_args(text):
+    """The arguments at the head of a text that ends in a closing bracket."""
+    out, depth, word = [], 0, ""
+    for ch in text:
+        if depth == 0 and ch == ")":
+            break
+        if depth == 0 and ch.isspace():
+            if word:
+                out.append(word)
+            word = ""
+            continue
+        depth += (ch in "([{") - (ch in ")]}")
+        word += ch
+    return out + ([word] if word else [])
+
+
 def convert(crate, folder, info, landed=None):
     path = f"crates/{crate}/proofs/{folder}"
     text = open(f"{path}/Proof.antt", encoding="utf-8").read()
@@ -143,6 +159,27 @@ def convert(crate, folder, info, landed=None):
     loops = {norm(l[0][0]): l for l in info["loops"]}
     for part in body:
         if "tie.close" in part:
+            opened = re.search(r"^unfolding[^\n]*\n", part, re.M)
+            args = split_args(part[part.index("tie.spec") + len("tie.spec") :])[2 * len(info["loops"]) :]
+            lambdas = [i for i, a in enumerate(args) if a.startswith("(λ")]
+            if lambdas and len(args) != len(needs):
+                hard.append(f"{len(args)} answers for {len(needs)} goals: {[n[0] for n in needs]}")
+                ans.append("-- LEFT\n" + part)
+                continue
+            for i in lambdas:
+                q = re.match(rf"^\(λ ((?:{NAME} ?)+)\.\s+(.*)\)$", args[i], re.S)
+                if not q:
+                    hard.append("answer " + args[i])
+                    continue
+                words = q[1].split()
+                if q[2].strip() == "search rules" and not opened:
+                    continue
+                new, place = needs[i][1], info["asked_at"][i][0]
+                t = Text(info, new)
+                b = t.chains(" " + re.sub(r"\n {2,}", "\n    ", q[2]), {words[0]: (words[0], place)}, True)
+                hard += [f"{new}: {h}" for h in t.hard]
+                places |= t.used
+                ans.append(f"pub {new} : goal.{new}\n{opened[0] if opened else ''}{new} {words[0]} ={b}")
             continue
         lines = part.split("\n")
         k = 0

@@ -1,0 +1,8 @@
+-- The code puts together what the definition does.
+use Rattle.access.specs.Effect.{raised}
+use borrow.Author.Rules.{rules}
+use Rattle.access.proofs.build.raised.Goals as goal
+
+pub returns : goal.returns
+unfolding raised
+returns c = simp c.turned.ensures

@@ -1,0 +1,6 @@
+-- The translation is called with what the definition gives it.
+use Rattle.std.proofs.Common.{rules}
+use Rattle.effect.proofs.asked.leads.Goals as goal
+
+pub returns : goal.returns
+returns c = simp (c.mode_of.ensures, c.translate.ensures)

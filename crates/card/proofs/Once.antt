@@ -49,6 +49,6 @@ step_once κs a p z₁ z₂ ws₁ ws₂ h₁ h₂ = (same h₁.0 h₂.0, λ i. (
 pub run_once : Unique run-kinds.ps run-kinds.r run-reads.Pre run-reads.Post
 run_once κs a p z₁ z₂ ws₁ ws₂ h₁ h₂ = (same h₁.0 h₂.0, λ i. (tt, (same h₁.1 h₂.1 i, (tt, (tt, (tt, tt))))))
 
--- proved by hand, so of the contract itself
-pub step_in_once : UniqueOf step_in.ended (λ M. step_in.clauses {M = M})
+-- of the contract itself, in every model
+pub step_in_once : UniqueOf step_in.ended (λ M 𝓤. step_in.clauses {M = M} {𝓤 = 𝓤})
 step_in_once M 𝓤 𝓛 mem run κs a g z₁ z₂ ws₁ ws₂ = both_say 𝓤 _ _ _ (λ h₁ h₂. (same h₁.0 h₂.0, λ i. (same h₁.1 h₂.1 i, (same h₁.2 h₂.2 i, (tt, (tt, tt))))))

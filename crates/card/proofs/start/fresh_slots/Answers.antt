@@ -1,0 +1,26 @@
+-- The invariant: the turns that are left lead from the slots so far to the definition's 48; from zeros they do by computation.
+use Prim.Native.Nat.{ℕ, zero, suc, ◌+◌, ◌*◌, ◌-◌, ◌≤◌}
+use mathlib.Core.Path.{◌≡◌, refl, sym, ap, ◌∙◌}
+use mathlib.Core.List.{List}
+use native.Mathlib.Omega.{arith}
+use borrow.Author.Rules.{rules}
+use lib.ListN.{set}
+use Rattle.card.specs.Machine.{fresh_slots}
+use Rattle.card.proofs.start.fresh_slots.Invariants.{turns}
+use Rattle.card.proofs.start.fresh_slots.Goals as goal
+
+pub loop-i-init : goal.loop-i-init
+unfolding turns fresh_slots
+loop-i-init c = (omega arith, refl)
+
+pub loop-i-preserved : goal.loop-i-preserved
+unfolding turns
+loop-i-preserved c =
+    let e : 48 - c.loop-i.i ≡ suc (48 - (c.loop-i.i + 1)) = omega arith in
+    (omega arith, sym (ap (λ (n : ℕ). turns n c.loop-i.i c.loop-i.slots) e) ∙ c.loop-i.invariant.1)
+
+pub returns : goal.returns
+unfolding turns
+returns c =
+    let e : 48 - c.loop-i.i ≡ 0 = omega arith in
+    sym (ap (λ (n : ℕ). turns n c.loop-i.i c.loop-i.slots) e) ∙ c.loop-i.invariant.1

@@ -1,0 +1,18 @@
+-- The fields are written one after the other, and LF.
+use native.Mathlib.Omega.{arith}
+use Rattle.answer.specs.Frames.{pending_frame}
+use Rattle.answer.specs.Wrote.{◌then◌, one}
+use borrow.Author.Rules.{rules}
+use Rattle.answer.proofs.put_pending.Goals as goal
+
+pub returns : goal.returns
+unfolding pending_frame
+returns c =
+    rw (← c.flag.ensures, ← c.flag-2.ensures) (
+      c.put_hex-a.ensures.0
+          then c.put_hex-b.ensures.0
+          then c.put_hex-c.ensures.0
+          then c.put_hex-d.ensures.0
+          then one c.put.ensures,
+      omega arith,
+    )

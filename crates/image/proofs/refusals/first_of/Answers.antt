@@ -1,0 +1,45 @@
+-- The invariant: the first refusal of what is left, at its line number, is that of the whole text.
+use Prim.Native.Nat.{◌≤◌, ◌+◌, ◌-◌}
+use mathlib.Core.Path.{◌≡◌, refl, sym, ap, ◌∙◌}
+use mathlib.Core.Bool.{false}
+use native.Mathlib.Omega.{arith}
+use borrow.Author.Rules.{rules}
+use lib.ListN.{length, drop}
+use Rattle.frame.specs.Line.{lines_of}
+use Rattle.image.specs.Refusals.{first_of}
+use Rattle.image.proofs.Turns.{first_unended, first_refused, first_next, first_done}
+use Rattle.image.proofs.refusals.first_of.Goals as goal
+
+pub loop-at-init : goal.loop-at-init
+loop-at-init c = (omega arith, (omega arith, (omega arith, refl)))
+
+pub returns-then-text-end : goal.returns-then-text-end
+returns-then-text-end c =
+    sym
+    (c.loop-at.invariant.1.1.1
+    ∙ first_unended _ _ _ c.next_line-line.ensures.0 c.loop-at-test.true _ _ c.if-text-end.true)
+
+pub returns-then-number-ne0 : goal.returns-then-number-ne0
+returns-then-number-ne0 c =
+    sym
+    (c.loop-at.invariant.1.1.1
+    ∙ first_refused _ _ _ c.next_line-line.ensures.0 c.loop-at-test.true _ _ c.if-text-end.false _ c.frame_of-f.ensures _ c.refusal_of-number.ensures c.if-number-ne0.true)
+
+pub loop-at-preserved : goal.loop-at-preserved
+loop-at-preserved c = (
+  omega arith,
+  (
+    omega arith,
+    (
+      c.loop-at.invariant.1.1.0,
+      c.loop-at.invariant.1.1.1
+          ∙ first_next _ _ _ c.next_line-line.ensures.0 c.loop-at-test.true _ _ c.if-text-end.false _ c.frame_of-f.ensures _ c.refusal_of-number.ensures c.if-number-ne0.false _ c.is_budget-after.ensures,
+    ),
+  ),
+)
+
+pub returns-then-after : goal.returns-then-after
+returns-then-after c = sym (c.loop-at.invariant.1.1.1 ∙ first_done _ _ _ _ c.loop-at-test.false ∙ simp c.if-after.true)
+
+pub returns : goal.returns
+returns c = sym (c.loop-at.invariant.1.1.1 ∙ first_done _ _ _ _ c.loop-at-test.false ∙ simp c.if-after.false)

@@ -1,0 +1,15 @@
+-- The invariant: zeros as far as the loop has come, and what was there after it.
+use Prim.Native.Nat.{ℕ, ◌≤◌, ◌<◌, ◌-◌}
+use mathlib.Core.Path.{◌≡◌, refl, sym, ap, ◌∙◌, subst}
+use mathlib.Core.List.{List, ◌++◌, append-nil}
+use native.Mathlib.Omega.{arith}
+use borrow.Author.Fill.{fill_none, fill_more}
+use borrow.Author.Rules.{rules}
+use lib.ListN.{length, set, drop, replicate, length-set, drop_of_length-le}
+use Rattle.image.proofs.zeroed.clear.Given as goal
+
+abbrev pub invariant-loop-i : goal.invariant-loop-i
+invariant-loop-i l = (l.i ≤ length l.initial.ram) × ((length l.ram ≡ length l.initial.ram) × (l.ram ≡ replicate l.i 0 ++ drop l.i l.initial.ram))
+
+abbrev pub decreases-loop-i : goal.decreases-loop-i
+decreases-loop-i l = length l.initial.ram - l.i

@@ -228,6 +228,7 @@ module _ (cpu : Cpu) (cp0 : Cp0) (regs tlb : List ℕ) (u : user cp0.status ≡ 
   executed_good : (lines value : ℕ) (x : Executed) → Plainly x → Good cp0 tlb (executed cpu cp0 tlb look lines value x)
   unfolding executed
   executed_good lines value (done.Plain a) plain = asked_good value a
+  executed_good lines value (done.Command _) p = elim p [ ]
 
   readied_good : (lines w : ℕ) (x : Ready) → ready true false cpu.slot (decode w) ≡ x → Good cp0 tlb (readied cpu cp0 regs tlb look lines w x)
   unfolding readied

@@ -145,6 +145,7 @@ module _ (cpu : Cpu) (cp0 : Cp0) (regs tlb₁ tlb₂ : List ℕ) (u : user cp0.s
   executed_swap : (lines value : ℕ) (x : Executed) → Plainly x → executed cpu cp0 tlb₁ look lines value x ≡ executed cpu cp0 tlb₂ look lines value x
   unfolding executed
   executed_swap lines value (done.Plain a) plain = asked_swap value a
+  executed_swap lines value (done.Command _) p = elim p [ ]
 
   readied_swap : (lines w : ℕ) (x : Ready) → ready true false cpu.slot (decode w) ≡ x → readied cpu cp0 regs tlb₁ look lines w x ≡ readied cpu cp0 regs tlb₂ look lines w x
   unfolding readied

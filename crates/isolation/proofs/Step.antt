@@ -98,6 +98,10 @@ calm_status pc slot c (turn.Enter e) enter u =
     let z : ◌≡◌ {A = ℕ} 0 1 = cc in
     absurd (omega arith)
 calm_status pc slot c turn.Stay stay u = refl
+calm_status pc slot c (turn.Move _ _) calm u = elim calm [ ]
+calm_status pc slot c (turn.Read _) calm u = elim calm [ ]
+calm_status pc slot c (turn.Probed _) calm u = elim calm [ ]
+calm_status pc slot c turn.Eret calm u = elim calm [ ]
 
 -- and whether it does or not, the ASID
 calm_asid : (pc : ℕ) (slot : Bool) (c : Cp0) (t : Turn) → Calm t → asid_of (cp0_after pc slot c t).entryhi ≡ asid_of c.entryhi
@@ -109,6 +113,10 @@ calm_asid pc slot c (turn.HiLo hi lo) hilo = ap asid_of (ended_entryhi false c)
 calm_asid pc slot c (turn.Link p) link = ap asid_of (ended_entryhi false (linked c p) ∙ linked_entryhi c p)
 calm_asid pc slot c (turn.Enter e) enter = ap asid_of (ended_entryhi false (entered c pc slot e)) ∙ entered_asid c pc slot e
 calm_asid pc slot c turn.Stay stay = refl
+calm_asid pc slot c (turn.Move _ _) calm = elim calm [ ]
+calm_asid pc slot c (turn.Read _) calm = elim calm [ ]
+calm_asid pc slot c (turn.Probed _) calm = elim calm [ ]
+calm_asid pc slot c turn.Eret calm = elim calm [ ]
 
 -- ---- a step
 

@@ -1,0 +1,25 @@
+-- The invariant: the pages left, added to what is planned, give what all give.
+use borrow.Author.Rules.{rules}
+use native.Mathlib.Omega.{arith}
+use mathlib.Core.Path.{◌≡◌, refl, sym, ◌∙◌}
+use Prim.Native.Nat.{◌+◌}
+use Rattle.place.specs.Fits.{Fits}
+use Rattle.place.specs.Plan.{plan, add_run}
+use Rattle.place.proofs.Turns.{run_next, run_done}
+use Rattle.place.proofs.plan.add_run.Goals as goal
+
+pub loop-left-init : goal.loop-left-init
+loop-left-init c = (refl, (c.requires.1.1, refl))
+
+pub loop-left-preserved : goal.loop-left-preserved
+loop-left-preserved c = (
+  omega arith,
+  (
+    c.add-now.ensures.1,
+    sym (run_next _ _ _ _ _ _ c.add-now.ensures.0 c.loop-left-test.true)
+        ∙ c.loop-left.invariant.1.1,
+  ),
+)
+
+pub returns : goal.returns
+returns c = (sym (run_done _ _ _ _ _ c.loop-left-test.false) ∙ c.loop-left.invariant.1.1, c.loop-left.invariant.1.0)

@@ -1,0 +1,12 @@
+-- D is set if the page is writable.
+use Rattle.place.specs.Plan.{granted}
+use borrow.Author.Rules.{rules}
+use Rattle.place.proofs.plan.granted.Goals as goal
+
+pub returns-then-writable : goal.returns-then-writable
+unfolding granted
+returns-then-writable c = simp c.if-writable.true
+
+pub returns : goal.returns
+unfolding granted
+returns c = simp c.if-writable.false

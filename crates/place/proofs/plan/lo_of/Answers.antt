@@ -1,0 +1,12 @@
+-- D is set if the page is writable.
+use Rattle.place.specs.Plan.{lo_of}
+use borrow.Author.Rules.{rules}
+use Rattle.place.proofs.plan.lo_of.Goals as goal
+
+pub returns-then-writable : goal.returns-then-writable
+unfolding lo_of
+returns-then-writable c = simp c.if-writable.true
+
+pub returns : goal.returns
+unfolding lo_of
+returns c = simp c.if-writable.false

@@ -1,0 +1,13 @@
+-- By the test of the slot.
+use Rattle.place.specs.Plan.{more}
+use borrow.Author.Tests.{eq-eqb, ne_eqb}
+use borrow.Author.Rules.{rules}
+use Rattle.place.proofs.plan.more.Goals as goal
+
+pub returns-then-i-used : goal.returns-then-i-used
+unfolding more
+returns-then-i-used c = simp (eq-eqb _ _ c.if-i-used.true)
+
+pub returns : goal.returns
+unfolding more
+returns c = simp (ne_eqb _ _ c.if-i-used.false)

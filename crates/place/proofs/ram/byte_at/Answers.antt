@@ -1,0 +1,13 @@
+-- By whose the page is.
+use borrow.Author.Rules.{rules}
+use borrow.Author.Tests.{lt-ltb, le-ltb}
+use Rattle.place.specs.Ram.{byte_at}
+use Rattle.place.proofs.ram.byte_at.Goals as goal
+
+pub returns-then-g-kernel : goal.returns-then-g-kernel
+unfolding byte_at
+returns-then-g-kernel c = simp (lt-ltb _ _ c.if-g-kernel.true, c.file_at-file.ensures, c.stands.ensures)
+
+pub returns : goal.returns
+unfolding byte_at
+returns c = simp (le-ltb _ _ c.if-g-kernel.false, c.owned_byte.ensures)

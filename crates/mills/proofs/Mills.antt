@@ -190,7 +190,7 @@ module _ (file : ℕ → List ℕ) (n : ℕ) (settings : List ℕ) (I : spec.Ima
         accepted =
             λ rom lines r l.
             record {
-              accepted = rw (ap (λ (x : ℕ). eights 8 16777216 x) ram_long, r, l, (image.exact (text_of file n settings) zeros).in_range) refl;
+              accepted = rw (ap (λ (x : ℕ). eights 8 16777216 x) ram_long, r, l, (image.exact (text_of file n settings) zeros).is_in_range) refl;
               user = B.like.user_mode;
               locked = B.like.locked;
             };

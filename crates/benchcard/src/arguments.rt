@@ -3,6 +3,7 @@ ghost use Rattle.std.specs.Prelude.{◌≡◌, ◌≤◌, length};
 ghost use Rattle.benchcard.specs.Arguments as Rule;
 
 use program::End;
+use std::env::Env;
 
 // The steps that an argument asks for, or it asks for none.
 #[derive(Clone, Copy)]
@@ -103,38 +104,36 @@ fn program_of(word: &[u8]) -> Named
 }
 
 // The first argument; a third is one too many.
-pub(crate) fn steps_given() -> Steps {
-    let count = os::arg_count();
-    if 3 < count {
+pub(crate) fn steps_given<R: Env>(rt: &R) -> Steps {
+    if program::has_arg(rt, 3) {
         return Steps::Wrong;
     }
-    if count < 2 {
+    if !program::has_arg(rt, 1) {
         return Steps::Are(USUAL);
     }
     let mut word = io::buffer();
-    let n = os::arg(1, &mut word);
-    if os::errno() != 0 {
+    let Ok(n) = rt.arg(1, &mut word) else {
         return Steps::Wrong;
-    }
+    };
     steps_of(&word[..n])
 }
 
 // The second argument, the sweep where there is none.
-pub(crate) fn program_given() -> Named {
-    if os::arg_count() < 3 {
+pub(crate) fn program_given<R: Env>(rt: &R) -> Named {
+    if !program::has_arg(rt, 2) {
         return Named::Is(Program::Sweep);
     }
     let mut word = io::buffer();
-    let n = os::arg(2, &mut word);
-    if os::errno() != 0 {
+    let Ok(n) = rt.arg(2, &mut word) else {
         return Named::Wrong;
-    }
+    };
     program_of(&word[..n])
 }
 
 // Says which arguments are taken.
-pub(crate) fn misused() -> End {
+pub(crate) fn misused<R: Eprint>(rt: &R) -> End {
     program::misused(
+        rt,
         b"benchcard: the arguments are [STEPS [PROGRAM]]: steps, at most 16 decimal digits, and a program, sweep or unaligned\n",
     )
 }

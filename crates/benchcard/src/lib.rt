@@ -13,6 +13,7 @@ use cp0::Cp0;
 use effect::Cpu;
 use memory::{PAddr, Store};
 use program::End;
+use std::env::Env;
 
 // A table's words go to memory, one after the other.
 fn poke(bytes: &mut [u8], from: u64, words: &[u64]) {
@@ -105,7 +106,7 @@ fn sum_of_bytes(from: u64, bytes: &[u8]) -> u64 {
 }
 
 // Runs a program and gives the line.
-fn answer(budget: u64, program: Program) -> End {
+fn answer<R: Print + Eprint>(rt: &R, budget: u64, program: Program) -> End {
     let mut ram = [0u8; 32768];
     let mut rom = [0u8; 256];
     put_program(program, &mut rom, &mut ram);
@@ -114,16 +115,16 @@ fn answer(budget: u64, program: Program) -> End {
     let regs = m.regs;
     let x = sum_of_registers(mix_byte(0, r.stop), &regs);
     let sum = sum_of_bytes(sum_of_cp0(sum_of_cpu(x, m.cpu), m.cp0), &ram);
-    line::give_line(r.steps, sum)
+    line::give_line(rt, r.steps, sum)
 }
 
 // Reads the arguments and answers.
-pub fn benchcard() -> End {
-    let Steps::Are(budget) = arguments::steps_given() else {
-        return arguments::misused();
+pub fn benchcard<R: Env + Print + Eprint>(rt: &R) -> End {
+    let Steps::Are(budget) = arguments::steps_given(rt) else {
+        return arguments::misused(rt);
     };
-    let Named::Is(program) = arguments::program_given() else {
-        return arguments::misused();
+    let Named::Is(program) = arguments::program_given(rt) else {
+        return arguments::misused(rt);
     };
-    answer(budget, program)
+    answer(rt, budget, program)
 }

@@ -4,6 +4,11 @@ ghost use Rattle.program.specs.Within.{Within};
 ghost use Rattle.cardimage_main.specs.Arguments as Rule;
 
 use program::Input;
+use std::env::Env;
+use std::rt::Files;
+
+// So many arguments are counted, the program's own name among them: one more than may be given.
+pub const MOST: usize = 11;
 
 // What is wanted: an image of programs, an image of a program in Kernel mode, a symbol's value; or no word says.
 #[derive(Clone, Copy)]
@@ -61,47 +66,44 @@ fn counted(mode: Mode, n: usize) -> Mode
 }
 
 // What the arguments want.
-pub(crate) fn mode_given() -> Mode {
-    let count = os::arg_count();
+pub(crate) fn mode_given<R: Env>(rt: &R) -> Mode {
+    let count = program::arg_count(rt, MOST);
     if count < 2 {
         return Mode::Wrong;
     }
     let mut word = io::buffer();
-    let n = os::arg(1, &mut word);
-    if os::errno() != 0 {
+    let Ok(n) = rt.arg(1, &mut word) else {
         return Mode::Wrong;
-    }
+    };
     let mode = mode_of(&word[..n]);
     counted(mode, count)
 }
 
 // Reads the file that argument i names to the start of `room`.
-pub(crate) fn read_file(i: usize, room: &mut [u8]) -> Input
+pub(crate) fn read_file<R: Env + Files>(rt: &R, i: usize, room: &mut [u8]) -> Input
     ensures { Within result room.new }
 {
     let mut path = io::buffer();
-    let n = os::arg(i, &mut path);
-    if os::errno() != 0 {
+    let Ok(n) = rt.arg(i, &mut path) else {
         return Input::Failed;
-    }
-    let fd = os::open_read(&path[..n]);
-    if fd < 0 {
-        return Input::Failed;
-    }
-    let read = program::read_whole(fd, &mut *room);
-    libc::close(fd);
-    read
+    };
+    program::read_file(rt, &path[..n], &mut *room)
 }
 
 // Reads so many files, from argument 2 on, one after the other into `room`, and where each ends into `ends`.
-pub(crate) fn read_files(room: &mut [u8], ends: &mut [usize; 8], count: usize) -> Input
+pub(crate) fn read_files<R: Env + Files>(
+    rt: &R,
+    room: &mut [u8],
+    ends: &mut [usize; 8],
+    count: usize,
+) -> Input
     requires { count ≤ 8 }
     ensures { Within result room.new }
 {
     let mut at = 0;
     let mut k = 0;
     while k < count {
-        let Input::Bytes(n) = read_file(k + 2, &mut room[at..]) else {
+        let Input::Bytes(n) = read_file(rt, k + 2, &mut room[at..]) else {
             return Input::Failed;
         };
         at += n;

@@ -4,8 +4,9 @@
 ghost use Rattle.answer.specs.Wrote.{Wrote};
 ghost use Rattle.cardrun_main.specs.Printed.{printed};
 
-use libc::STDIN_FILENO;
 use program::{End, Input};
+use std::env::Env;
+use std::io::Read;
 
 // The text that answers an image; RAM is what the image asks for, and there is no ROM and no interrupt line.
 fn answer_to(text: &[u8], ram: &mut [u8], out: &mut [u8]) -> usize
@@ -21,24 +22,28 @@ fn answer_to(text: &[u8], ram: &mut [u8], out: &mut [u8]) -> usize
 }
 
 // Answers an image: every answer fits the room.
-fn answer_image(text: &[u8]) -> End {
+fn answer_image<R: Print + Eprint>(rt: &R, text: &[u8]) -> End {
     let mut ram = [0u8; 65536];
     let mut out = [0u8; 1024];
     let n = answer_to(text, &mut ram, &mut out);
     program::give(
+        rt,
         &out[..n],
         b"cardrun: not all of the answer could be written to standard output\n",
     )
 }
 
 // Takes no arguments, reads the image and answers it; one byte more than an image may have is read, and no further.
-pub fn cardrun() -> End {
-    if 1 < os::arg_count() {
-        return program::misused(b"cardrun: no arguments are taken; the image is standard input\n");
+pub fn cardrun<R: Env + Print + Eprint, I: Read>(rt: &R, input: &mut I) -> End {
+    if program::has_arg(rt, 1) {
+        return program::misused(
+            rt,
+            b"cardrun: no arguments are taken; the image is standard input\n",
+        );
     }
     let mut text = [0u8; 65537];
-    let Input::Bytes(n) = program::read_whole(STDIN_FILENO, &mut text) else {
-        return program::unread(b"cardrun: standard input cannot be read\n");
+    let Input::Bytes(n) = program::read_whole(&mut *input, &mut text) else {
+        return program::unread(rt, b"cardrun: standard input cannot be read\n");
     };
-    answer_image(&text[..n])
+    answer_image(rt, &text[..n])
 }

@@ -4,6 +4,8 @@ ghost use Rattle.program.specs.Within.{Within};
 ghost use Rattle.cardstate_main.specs.Arguments as Rule;
 
 use program::Input;
+use std::env::Env;
+use std::rt::Files;
 
 // The interrupt lines that an argument names, or it names none.
 #[derive(Clone, Copy)]
@@ -70,39 +72,30 @@ fn lines_of(word: &[u8]) -> Lines
 }
 
 // The first argument, 0 where there is none; a third is one too many.
-pub(crate) fn lines_given() -> Lines {
-    let count = os::arg_count();
-    if 3 < count {
+pub(crate) fn lines_given<R: Env>(rt: &R) -> Lines {
+    if program::has_arg(rt, 3) {
         return Lines::Wrong;
     }
-    if count < 2 {
+    if !program::has_arg(rt, 1) {
         return Lines::Are(0);
     }
     let mut word = io::buffer();
-    let n = os::arg(1, &mut word);
-    if os::errno() != 0 {
+    let Ok(n) = rt.arg(1, &mut word) else {
         return Lines::Wrong;
-    }
+    };
     lines_of(&word[..n])
 }
 
 // Reads the file that the second argument names to the start of `rom`; no bytes where there is no such argument.
-pub(crate) fn read_rom(rom: &mut [u8]) -> Input
+pub(crate) fn read_rom<R: Env + Files>(rt: &R, rom: &mut [u8]) -> Input
     ensures { Within result rom.new }
 {
-    if os::arg_count() < 3 {
+    if !program::has_arg(rt, 2) {
         return Input::Bytes(0);
     }
     let mut path = io::buffer();
-    let n = os::arg(2, &mut path);
-    if os::errno() != 0 {
+    let Ok(n) = rt.arg(2, &mut path) else {
         return Input::Failed;
-    }
-    let fd = os::open_read(&path[..n]);
-    if fd < 0 {
-        return Input::Failed;
-    }
-    let read = program::read_whole(fd, &mut *rom);
-    libc::close(fd);
-    read
+    };
+    program::read_file(rt, &path[..n], &mut *rom)
 }

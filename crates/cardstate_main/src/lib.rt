@@ -8,8 +8,10 @@ ghost use Rattle.answer.specs.Wrote.{Wrote};
 ghost use Rattle.cardstate_main.specs.Printed.{printed};
 
 use arguments::Lines;
-use libc::STDIN_FILENO;
 use program::{End, Input};
+use std::env::Env;
+use std::io::Read;
+use std::rt::Files;
 
 // The text that answers an image, run with a ROM and interrupt lines.
 fn answer_to(text: &[u8], ram: &mut [u8], rom: &[u8], lines: u8, out: &mut [u8]) -> usize
@@ -25,45 +27,57 @@ fn answer_to(text: &[u8], ram: &mut [u8], rom: &[u8], lines: u8, out: &mut [u8])
 }
 
 // Answers an image: every answer fits the room.
-fn answer_image(text: &[u8], rom: &[u8], lines: u8) -> End {
+fn answer_image<R: Print + Eprint>(rt: &R, text: &[u8], rom: &[u8], lines: u8) -> End {
     let mut ram = [0u8; 65536];
     let mut out = [0u8; 262144];
     let n = answer_to(text, &mut ram, rom, lines, &mut out);
     program::give(
+        rt,
         &out[..n],
         b"cardstate: not all of the answer could be written to standard output\n",
     )
 }
 
 // Reads the image and answers it; one byte more than an image may have is read, and no further.
-fn answer_input(rom: &[u8], lines: u8) -> End {
+fn answer_input<R: Print + Eprint, I: Read>(rt: &R, input: &mut I, rom: &[u8], lines: u8) -> End {
     let mut text = [0u8; 65537];
-    let Input::Bytes(n) = program::read_whole(STDIN_FILENO, &mut text) else {
-        return program::unread(b"cardstate: standard input cannot be read\n");
+    let Input::Bytes(n) = program::read_whole(&mut *input, &mut text) else {
+        return program::unread(rt, b"cardstate: standard input cannot be read\n");
     };
-    answer_image(&text[..n], rom, lines)
+    answer_image(rt, &text[..n], rom, lines)
 }
 
 // Reads the boot ROM into `rom` and answers.
-fn start(rom: &mut [u8], lines: u8) -> End {
-    let Input::Bytes(n) = arguments::read_rom(&mut *rom) else {
-        return program::unread(b"cardstate: the boot ROM cannot be read\n");
+fn start<R: Env + Files + Print + Eprint, I: Read>(
+    rt: &R,
+    input: &mut I,
+    rom: &mut [u8],
+    lines: u8,
+) -> End {
+    let Input::Bytes(n) = arguments::read_rom(rt, &mut *rom) else {
+        return program::unread(rt, b"cardstate: the boot ROM cannot be read\n");
     };
-    answer_input(&rom[..n], lines)
+    answer_input(rt, input, &rom[..n], lines)
 }
 
 // Room for one byte more than a boot ROM may have, and no further byte is read.
-fn start_with(room: &mut [u8; 4194305], lines: u8) -> End {
-    start(room, lines)
+fn start_with<R: Env + Files + Print + Eprint, I: Read>(
+    rt: &R,
+    input: &mut I,
+    room: &mut [u8; 4194305],
+    lines: u8,
+) -> End {
+    start(rt, input, room, lines)
 }
 
 // Reads the arguments and answers.
-pub fn cardstate() -> End {
-    let Lines::Are(lines) = arguments::lines_given() else {
+pub fn cardstate<R: Env + Files + Print + Eprint, I: Read>(rt: &R, input: &mut I) -> End {
+    let Lines::Are(lines) = arguments::lines_given(rt) else {
         return program::misused(
+            rt,
             b"cardstate: the arguments are [LINES [ROM]]: interrupt lines, one or two lowercase hexadecimal digits, and the boot ROM's file\n",
         );
     };
     let mut room = [0u8; 4194305];
-    start_with(&mut room, lines)
+    start_with(rt, input, &mut room, lines)
 }

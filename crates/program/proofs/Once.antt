@@ -1,5 +1,9 @@
 -- No two different outcomes satisfy a contract of this crate.
 use mathlib.Core.Path.{refl}
+use denote.RattleType.{RattleType}
+use denote.Param.Laws.{Laws}
+use mir.Syntax.{Dict}
+use Rattle.std.specs.declared.io.Eprint.{Ghosts}
 use Rattle.promise.specs.Unique.{Unique, same}
 use Rattle.program.proofs.misused.Kinds as misused-kinds
 use Rattle.program.proofs.misused.Reads as misused-reads
@@ -15,14 +19,16 @@ use Rattle.program.proofs.unwritten.Reads as unwritten-reads
 pub status_once : Unique status-kinds.ps status-kinds.r status-reads.Pre status-reads.Post
 status_once κs a p z₁ z₂ ws₁ ws₂ h₁ h₂ = (same h₁ h₂, refl)
 
-pub unread_once : Unique unread-kinds.ps unread-kinds.r unread-reads.Pre unread-reads.Post
-unread_once κs a p z₁ z₂ ws₁ ws₂ h₁ h₂ = (same h₁ h₂, refl)
+-- whatever the runtime is that says the line
+module _ (T : RattleType) (L : Laws T) (R : Ghosts T.Denot) (D : Dict) where
+  pub unread_once : Unique (unread-kinds.ps T L) (unread-kinds.r T L) (unread-reads.Pre T L R D) (unread-reads.Post T L R D)
+  unread_once κs a p z₁ z₂ ws₁ ws₂ h₁ h₂ = (same h₁ h₂, refl)
 
-pub unwritten_once : Unique unwritten-kinds.ps unwritten-kinds.r unwritten-reads.Pre unwritten-reads.Post
-unwritten_once κs a p z₁ z₂ ws₁ ws₂ h₁ h₂ = (same h₁ h₂, refl)
+  pub unwritten_once : Unique (unwritten-kinds.ps T L) (unwritten-kinds.r T L) (unwritten-reads.Pre T L R D) (unwritten-reads.Post T L R D)
+  unwritten_once κs a p z₁ z₂ ws₁ ws₂ h₁ h₂ = (same h₁ h₂, refl)
 
-pub misused_once : Unique misused-kinds.ps misused-kinds.r misused-reads.Pre misused-reads.Post
-misused_once κs a p z₁ z₂ ws₁ ws₂ h₁ h₂ = (same h₁ h₂, refl)
+  pub misused_once : Unique (misused-kinds.ps T L) (misused-kinds.r T L) (misused-reads.Pre T L R D) (misused-reads.Post T L R D)
+  misused_once κs a p z₁ z₂ ws₁ ws₂ h₁ h₂ = (same h₁ h₂, refl)
 
-pub refused_once : Unique refused-kinds.ps refused-kinds.r refused-reads.Pre refused-reads.Post
-refused_once κs a p z₁ z₂ ws₁ ws₂ h₁ h₂ = (same h₁ h₂, refl)
+  pub refused_once : Unique (refused-kinds.ps T L) (refused-kinds.r T L) (refused-reads.Pre T L R D) (refused-reads.Post T L R D)
+  refused_once κs a p z₁ z₂ ws₁ ws₂ h₁ h₂ = (same h₁ h₂, refl)

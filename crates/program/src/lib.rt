@@ -1,12 +1,15 @@
 // How a program takes its whole input, gives its whole answer, and ends.
 #![tactic(auto)]
 
-ghost use Rattle.std.specs.Prelude.{◌≡◌};
+ghost use Rattle.std.specs.Prelude.{◌≡◌, ◌≤◌};
 ghost use Rattle.program.specs.Ends.{status_of, end_of};
 ghost use Rattle.program.specs.Within.{Within};
 ghost use Rattle.program.specs.declared.End.TheVariants.{Unread, Unwritten, Misused, Refused};
 
-use libc::{STDERR_FILENO, STDOUT_FILENO};
+use std::env::{Env, FillError};
+use std::io::Read;
+use std::rt::Files;
+use std::{fs, str};
 
 // How a program ends.
 #[derive(Clone, Copy)]
@@ -38,18 +41,15 @@ pub fn status(end: End) -> i32
     }
 }
 
-// Reads from a descriptor until `buf` is full or the input ends; a read that fails, or would block, is Failed, whatever
-// came before.
-pub fn read_whole(fd: i32, buf: &mut [u8]) -> Input
+// Reads until `buf` is full or the input ends; a read that fails, or would block, is Failed, whatever came before.
+pub fn read_whole<I: Read>(from: &mut I, buf: &mut [u8]) -> Input
     ensures { Within result buf.new }
 {
     let mut done = 0;
     while done < buf.len() {
-        let got = libc::read(fd, &mut buf[done..]);
-        if got < 0 {
+        let Ok(more) = from.read(&mut buf[done..]) else {
             return Input::Failed;
-        }
-        let more = io::count(got, &buf[done..]);
+        };
         if more == 0 {
             break;
         }
@@ -58,44 +58,79 @@ pub fn read_whole(fd: i32, buf: &mut [u8]) -> Input
     Input::Bytes(done)
 }
 
+// Reads the file of a name to the start of `buf`; one that cannot be opened, or whose name is no text, is Failed.
+pub fn read_file<R: Files>(rt: &R, name: &[u8], buf: &mut [u8]) -> Input
+    ensures { Within result buf.new }
+{
+    let Ok(path) = str::from_utf8(name) else {
+        return Input::Failed;
+    };
+    let Ok(mut file) = fs::open(rt, path) else {
+        return Input::Failed;
+    };
+    read_whole(&mut file, buf)
+}
+
+// Whether there is an argument i, the program's own name being 0.
+pub fn has_arg<R: Env>(rt: &R, i: usize) -> bool {
+    let mut room = [0u8; 1];
+    match rt.arg(i, &mut room) {
+        Ok(_) => true,
+        Err(FillError::TooLong) => true,
+        Err(FillError::NotPresent) => false,
+    }
+}
+
+// How many arguments there are, the program's own name counted; no more than `most` are counted.
+pub fn arg_count<R: Env>(rt: &R, most: usize) -> usize
+    ensures { result ≤ most }
+{
+    for i in 0..most {
+        if !has_arg(rt, i) {
+            return i;
+        }
+    }
+    most
+}
+
 // Writes a whole answer to standard output and says how the program so ends; where it cannot, with a line.
-pub fn give(answer: &[u8], line: &[u8]) -> End {
-    let written = io::write_all(STDOUT_FILENO, answer);
+pub fn give<R: Print + Eprint>(rt: &R, answer: &[u8], line: &[u8]) -> End {
+    let written = rt.write_all(answer).is_ok();
     if !written {
-        say(line);
+        say(rt, line);
     }
     end_of(written)
 }
 
 // The end of a program that could not read what it wanted, with a line that says so.
-pub fn unread(line: &[u8]) -> End
+pub fn unread<R: Eprint>(rt: &R, line: &[u8]) -> End
     ensures { result ≡ Unread }
 {
-    say(line);
+    say(rt, line);
     End::Unread
 }
 
 // The end of a program whose answer could not be written whole, with a line that says so.
-pub fn unwritten(line: &[u8]) -> End
+pub fn unwritten<R: Eprint>(rt: &R, line: &[u8]) -> End
     ensures { result ≡ Unwritten }
 {
-    say(line);
+    say(rt, line);
     End::Unwritten
 }
 
 // The end of a program that was given wrong arguments, with a line that says which are right.
-pub fn misused(line: &[u8]) -> End
+pub fn misused<R: Eprint>(rt: &R, line: &[u8]) -> End
     ensures { result ≡ Misused }
 {
-    say(line);
+    say(rt, line);
     End::Misused
 }
 
 // The end of a program that refuses what it was asked for, with a line that says why.
-pub fn refused(line: &[u8]) -> End
+pub fn refused<R: Eprint>(rt: &R, line: &[u8]) -> End
     ensures { result ≡ Refused }
 {
-    say(line);
+    say(rt, line);
     End::Refused
 }
 
@@ -109,7 +144,13 @@ fn end_of(written: bool) -> End
     End::Unwritten
 }
 
-// Says a line on standard error; where that fails nothing is left to say it on.
-fn say(line: &[u8]) {
-    io::write_all(STDERR_FILENO, line);
+// Says a line on standard error; where that fails nothing is left to say it on. A line that is no text is said byte by byte.
+fn say<R: Eprint>(rt: &R, line: &[u8]) {
+    if let Ok(text) = str::from_utf8(line) {
+        let _ = rt.eprint(text);
+        return;
+    }
+    for byte in line {
+        let _ = rt.eprint(char::from(*byte));
+    }
 }

@@ -2,7 +2,6 @@
 ghost use Rattle.std.specs.Prelude.{◌≤◌, length};
 
 use crate::many::past_line;
-use libc::STDOUT_FILENO;
 
 // Whether two answers agree from one place to another.
 fn agree(base: &[u8], answer: &[u8], from: usize, end: usize) -> bool
@@ -22,12 +21,12 @@ fn agree(base: &[u8], answer: &[u8], from: usize, end: usize) -> bool
 }
 
 // Prints the lines of an answer at which it does not agree with the base, and says whether each could be written.
-pub(crate) fn print_differing(base: &[u8], answer: &[u8]) -> bool {
+pub(crate) fn print_differing<R: Print>(rt: &R, base: &[u8], answer: &[u8]) -> bool {
     let mut at = 0;
     while at < answer.len() {
         let end = past_line(answer, at);
         if !agree(base, answer, at, end) {
-            if !io::write_all(STDOUT_FILENO, &answer[at..end]) {
+            if rt.write_all(&answer[at..end]).is_err() {
                 return false;
             }
         }

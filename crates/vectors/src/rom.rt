@@ -2,6 +2,7 @@
 ghost use Rattle.program.specs.Within.{Within};
 
 use program::Input;
+use std::rt::Files;
 
 // So many bytes it may have.
 pub const MOST: usize = 4096;
@@ -17,17 +18,11 @@ fn is_none(name: &[u8]) -> bool {
 }
 
 // Reads the file of a name, as much of it as there is room for.
-pub(crate) fn read_rom(name: &[u8], room: &mut [u8]) -> Input
+pub(crate) fn read_rom<R: Files>(rt: &R, name: &[u8], room: &mut [u8]) -> Input
     ensures { Within result room.new }
 {
     if is_none(name) {
         return Input::Bytes(0);
     }
-    let file = os::open_read(name);
-    if file < 0 {
-        return Input::Failed;
-    }
-    let input = program::read_whole(file, &mut *room);
-    libc::close(file);
-    input
+    program::read_file(rt, name, &mut *room)
 }

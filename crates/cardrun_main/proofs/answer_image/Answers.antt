@@ -1,0 +1,10 @@
+-- An answer is never longer than its room.
+use Rattle.cardrun_main.proofs.Fits.{whole}
+use borrow.Author.Rules.{rules}
+use Rattle.cardrun_main.proofs.answer_image.Goals as goal
+
+pub slice_bounds-out-end : goal.slice_bounds-out-end
+slice_bounds-out-end g c = (whole _ _ c.answer_to-n.ensures (search rules)).0
+
+pub slice_bounds-give-end : goal.slice_bounds-give-end
+slice_bounds-give-end g c = (whole _ _ c.answer_to-n.ensures (search rules)).1

@@ -2,11 +2,7 @@
 use Prim.Native.Nat.{ℕ}
 use mathlib.Core.Path.{sym}
 use lib.ListN.{length-replicate}
-use Rattle.vectors.proofs.images.Statement.{statement}
-use Rattle.vectors.proofs.images.Tie as tie
+use Rattle.vectors.proofs.images.Goals as goal
 
-returns : tie.Need-returns
+pub returns : goal.returns
 returns c = sym (length-replicate {0} {A = ℕ} 2097153 0)
-
-pub images_spec : {M : Type 1} → statement M
-images_spec = tie.close (tie.spec returns)

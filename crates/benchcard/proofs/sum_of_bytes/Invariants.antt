@@ -1,0 +1,9 @@
+-- The bytes are added one after the other; what is left of them falls.
+use Rattle.std.proofs.Common.{◌-◌, ◌≤◌, length, rules}
+use Rattle.benchcard.proofs.sum_of_bytes.Given as goal
+
+abbrev pub invariant-loop-i : goal.invariant-loop-i
+invariant-loop-i l = l.i ≤ length l.bytes
+
+abbrev pub decreases-loop-i : goal.decreases-loop-i
+decreases-loop-i l = length l.bytes - l.i

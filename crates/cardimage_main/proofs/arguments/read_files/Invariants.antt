@@ -1,0 +1,16 @@
+-- The invariant: what was read so far stands within the room.
+use mathlib.Core.Path.{◌≡◌, refl}
+use borrow.Author.Rules.{rules}
+use Rattle.io.proofs.Counting.{prefix_len_of_le}
+use Rattle.program.proofs.Reading.{bytes_within}
+use Prim.Native.Nat.{◌-◌, ◌≤◌}
+use mathlib.Core.Path.{◌≡◌, refl}
+use native.Mathlib.Omega.{arith}
+use lib.ListN.{length}
+use Rattle.cardimage_main.proofs.arguments.read_files.Given as goal
+
+abbrev pub invariant-loop-k : goal.invariant-loop-k
+invariant-loop-k g l = (l.count ≤ 8) × (l.k ≤ l.count) × (length l.room ≡ length l.initial.room) × (l.at ≤ length l.initial.room)
+
+abbrev pub decreases-loop-k : goal.decreases-loop-k
+decreases-loop-k g l = l.count - l.k

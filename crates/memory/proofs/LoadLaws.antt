@@ -1,7 +1,7 @@
 -- A load of the place that a store wrote gives the value back.
 use Prim.Native.Nat.{ℕ, zero, suc, ◌+◌, ◌-◌, ◌*◌, ◌/◌, ◌%◌, ◌^◌, ◌<◌}
 use native.Mathlib.Omega.{arith}
-use Rattle.std.specs.Prelude.{◌≡◌, refl, true, length, get_or}
+use Rattle.std.specs.Prelude.{◌≡◌, true, length, get_or}
 use Rattle.std.proofs.Math.Path.{sym, ap}
 use Rattle.std.proofs.Common.{◌∙◌, lit<}
 use mathlib.Core.List.{List}

@@ -8,7 +8,7 @@ use Rattle.memory.specs.declared.PAddr.{PAddr}
 use Rattle.memory.specs.Bytes.{byte, eight_of}
 use Rattle.memory.specs.StoreLaws.{Bytes}
 use Rattle.memory.specs.Loads.{span, field}
-use Rattle.memory.specs.LoadLaws.{byte_eight}
+use Rattle.memory.proofs.LoadLaws.{byte_eight}
 use Rattle.tlb.specs.Translate.{paddr}
 
 pub byte_at : (eight : List ℕ) (p : PAddr) → Bytes eight → field 1 (eight_of eight) p ≡ get_or eight (p.0 % 8) 0

@@ -1,5 +1,5 @@
 -- Whatever a step does to the registers, it leaves them in range: each law for one thing that it does.
-use Rattle.std.proofs.Common.{◌≡◌, ℕ, ◌+◌, ◌-◌, ◌*◌, ◌/◌, ◌%◌, ◌^◌, ◌<◌, Bool, true, sym, refl, subst, arith, eq-eqb}
+use Rattle.std.proofs.Common.{◌≡◌, ℕ, ◌+◌, ◌*◌, ◌/◌, ◌%◌, ◌^◌, ◌<◌, Bool, true, sym, refl, subst, arith, eq-eqb}
 use lib.Count.{ones, ones_in, count_trailing_zeros}
 use Rattle.promise.specs.Bits.{bits}
 use Rattle.memory.specs.declared.PAddr.{PAddr}

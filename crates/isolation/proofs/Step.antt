@@ -11,7 +11,7 @@ use Rattle.memory.specs.declared.PAddr.{PAddr}
 use Rattle.memory.specs.declared.Store.{Store}
 use Rattle.memory.specs.declared.Store.TheVariants.{Nowhere, Write}
 use Rattle.memory.specs.Memory.{rom_base, in_ram, read}
-use Rattle.memory.specs.MemoryLaws.{read_same}
+use Rattle.memory.proofs.MemoryLaws.{read_same}
 use Rattle.memory.specs.Stores.{lands, put_bytes}
 use Rattle.memory.specs.StoreLaws.{length_put, put_agree, put_other, put_refused}
 use Rattle.tlb.specs.declared.SlotWrite.{SlotWrite}

@@ -5,4 +5,7 @@ pub mod Runs
 pub mod Merges
 pub mod Spans
 pub mod Right
+pub mod MemoryLaws
+pub mod StoreLaws
+pub mod LoadLaws
 pub mod Once

@@ -1,5 +1,5 @@
 -- Laws of stores: which bytes a store sets, what it leaves as it was, and what it depends on.
-use Rattle.std.specs.Prelude.{ℕ, zero, suc, ◌+◌, ◌-◌, ◌*◌, ◌/◌, ◌%◌, ◌^◌, ◌≤◌, ◌<◌, ◌≡◌, List, [], ◌∷◌, Bool, ◌≢◌, length, set, leb}
+use Rattle.std.specs.Prelude.{ℕ, zero, suc, ◌+◌, ◌-◌, ◌/◌, ◌%◌, ◌≤◌, ◌<◌, ◌≡◌, List, [], ◌∷◌, Bool, ◌≢◌, length, set, leb}
 use Rattle.std.proofs.Math.Decide.{ℕ_discrete, dec_lt}
 use Rattle.std.proofs.Common.{arith, sym, ◌∙◌, ap, length-set, get_or-set_same, get_or-set_other, ltb-true, leb-true}
 use Rattle.std.proofs.Math.Path.{refl}
@@ -13,8 +13,7 @@ use Rattle.memory.specs.declared.Store.{Store}
 use Rattle.memory.specs.declared.Store.TheVariants.{Nowhere, Write}
 use Rattle.memory.specs.Bytes.{byte, bytes_of}
 use Rattle.memory.specs.BytesLaws.{byte_lt}
-use Rattle.memory.specs.Memory.{in_ram, part, read}
-use Rattle.memory.specs.MemoryLaws.{SameEight, part_same, read_same}
+use Rattle.memory.specs.Memory.{in_ram}
 use Rattle.memory.specs.Stores.{lands, put_bytes, put_answer}
 
 pub length_bytes : (n x : ℕ) → length (bytes_of n x) ≡ n
@@ -145,20 +144,3 @@ module _ (ram : List ℕ) (to : PAddr) (size value : ℕ) where
   pub put_refused : lands ram to size ≡ false → put_bytes ram (Write to size value) ≡ ram
   unfolding put_bytes
   put_refused t = rw t
-
--- a store leaves what is read elsewhere
-module _ (ram rom : List ℕ) (to p : PAddr) (size value : ℕ) (away : to.0 / 8 ≢ p.0 / 8) where
-  eight_elsewhere : (b : Bool) → lands ram to size ≡ b → SameEight (put_bytes ram (Write to size value)) ram p.0
-  eight_elsewhere false e i h = rw (put_refused ram to size value e)
-  eight_elsewhere true e i h =
-      put_other ram to size value (p.0 / 8 * 8 + i) (λ j l q. away (omega (arith, (landing ram to size e).2)))
-
-  pub part_elsewhere : part (put_bytes ram (Write to size value)) rom p ≡ part ram rom p
-  part_elsewhere =
-      part_same (put_bytes ram (Write to size value)) ram rom rom p (length_put ram (Write to size value)) refl
-      (eight_elsewhere (lands ram to size) refl) (λ l i h. refl)
-
-  pub read_elsewhere : read (put_bytes ram (Write to size value)) rom p ≡ read ram rom p
-  read_elsewhere =
-      read_same (put_bytes ram (Write to size value)) ram rom rom p (length_put ram (Write to size value)) refl
-      (eight_elsewhere (lands ram to size) refl) (λ l i h. refl)

@@ -1,5 +1,5 @@
 -- Bits of a number, counted from 0 at the right as the manuals count them.
-use Rattle.std.specs.Prelude.{ℕ, ◌+◌, ◌-◌, ◌*◌, ◌/◌, ◌%◌, ◌^◌, Bool, eqb}
+use Rattle.std.specs.Prelude.{ℕ, ◌/◌, ◌%◌, ◌^◌, Bool, eqb}
 
 -- bit n of x
 abbrev pub bit : ℕ → ℕ → ℕ

@@ -1,6 +1,5 @@
 -- A choice by a test, as every definition of the rulebook makes it.
 use Rattle.std.specs.Prelude.{Bool, true, false, ◌≡◌, refl}
-use Rattle.std.proofs.Common.{ap}
 
 -- the first where the test holds, else the second
 abbrev pub pick : {A : Type 0} → Bool → A → A → A

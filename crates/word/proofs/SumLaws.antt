@@ -1,5 +1,5 @@
 -- Sums and differences over the width: the register that holds one has the low bits of the wrapped sum or difference of registers.
-use Rattle.std.proofs.Common.{◌≡◌, ℕ, ◌+◌, ◌-◌, ◌*◌, ◌/◌, ◌%◌, ◌^◌, ◌<◌, ℤ, ◌+ℤ◌, ◌-ℤ◌, sym, ap, ◌∙◌, mod-lt, div-add-mod', arith, pow_pos}
+use Rattle.std.proofs.Common.{◌≡◌, ℕ, ◌+◌, ◌-◌, ◌*◌, ◌/◌, ◌%◌, ◌^◌, ◌<◌, ◌+ℤ◌, ◌-ℤ◌, sym, ap, ◌∙◌, mod-lt, div-add-mod', arith, pow_pos}
 use native.Mathlib.Nat.{mod-mod, add-mod}
 use lib.Pow.{mod-mod-pow}
 use mir.Syntax.{Width}

@@ -1,6 +1,5 @@
 -- The low byte of `a * 256` is clear, so `|` adds.
 use lib.Bits.{or_shifted}
-use borrow.Author.Rules.{rules}
 use Rattle.memory.proofs.join.Goals as goal
 
 pub returns : goal.returns

@@ -3,7 +3,6 @@ use Rattle.memory.specs.Memory.{part, place}
 use mathlib.Core.Path.{refl}
 use borrow.Author.Tests.{lt-ltb, le-ltb, le-leb, lt-leb}
 use native.Mathlib.Nat.{add-sub_cancel_left}
-use borrow.Author.Rules.{rules}
 use Rattle.memory.proofs.part.Goals as goal
 
 pub returns-then-k-ram : goal.returns-then-k-ram

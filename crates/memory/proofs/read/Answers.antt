@@ -2,8 +2,7 @@
 use mathlib.Core.Path.{sym, ◌∙◌, ap}
 use Rattle.memory.specs.declared.Eight.TheVariants.{Ram, Rom}
 use Rattle.memory.specs.Bytes.{eight_of}
-use Rattle.memory.specs.MemoryLaws.{read_ram, read_rom, read_missing}
-use borrow.Author.Rules.{rules}
+use Rattle.memory.proofs.MemoryLaws.{read_ram, read_rom, read_missing}
 use Rattle.memory.proofs.read.Goals as goal
 
 pub returns-then-bytes-lt8 : goal.returns-then-bytes-lt8

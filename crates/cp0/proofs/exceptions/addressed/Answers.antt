@@ -1,7 +1,6 @@
 -- By the address that is brought: each case sets just the fields that its case of the definition sets.
 use Rattle.cp0.specs.Exceptions.{addressed}
 use Rattle.cp0.specs.Registers.{set}
-use Rattle.std.proofs.Common.{rules}
 use Rattle.cp0.proofs.exceptions.addressed.Goals as goal
 
 pub returns-in-Nothing : goal.returns-in-Nothing

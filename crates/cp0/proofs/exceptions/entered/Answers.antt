@@ -2,7 +2,6 @@
 use Rattle.cp0.proofs.Fits.{cause_fits}
 use Rattle.cp0.specs.Exceptions.{entered}
 use Rattle.cp0.specs.Registers.{set}
-use Rattle.std.proofs.Common.{rules}
 use Rattle.cp0.proofs.exceptions.entered.Goals as goal
 
 pub cause_after-requires : goal.cause_after-requires

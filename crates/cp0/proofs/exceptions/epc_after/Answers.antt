@@ -1,6 +1,6 @@
 -- By the two tests, EXL and the slot; the branch is pc plus the complement of 4.
 use Rattle.cp0.specs.Exceptions.{epc_after}
-use Rattle.std.proofs.Common.{rules, eq-eqb, ne_eqb}
+use Rattle.std.proofs.Common.{eq-eqb, ne_eqb}
 use Rattle.cp0.proofs.exceptions.epc_after.Goals as goal
 
 pub returns-then-status-eq1 : goal.returns-then-status-eq1

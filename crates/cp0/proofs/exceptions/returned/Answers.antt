@@ -1,7 +1,6 @@
 -- Status alone is set, to what `status_returned` gives.
 use Rattle.cp0.specs.Exceptions.{returned}
 use Rattle.cp0.specs.Registers.{set}
-use Rattle.std.proofs.Common.{rules}
 use Rattle.cp0.proofs.exceptions.returned.Goals as goal
 
 pub returns : goal.returns

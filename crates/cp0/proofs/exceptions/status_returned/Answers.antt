@@ -1,6 +1,6 @@
 -- By the test of ERL.
 use Rattle.cp0.specs.Exceptions.{status_returned}
-use Rattle.std.proofs.Common.{rules, eq-eqb, ne_eqb}
+use Rattle.std.proofs.Common.{eq-eqb, ne_eqb}
 use Rattle.cp0.proofs.exceptions.status_returned.Goals as goal
 
 pub returns-then-status-eq1 : goal.returns-then-status-eq1

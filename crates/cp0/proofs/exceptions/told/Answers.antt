@@ -1,6 +1,5 @@
 -- By the exception: each arm is its line of the table.
 use Rattle.cp0.specs.Exceptions.{told}
-use Rattle.std.proofs.Common.{rules}
 use Rattle.cp0.proofs.exceptions.told.Goals as goal
 
 pub returns-in-Int : goal.returns-in-Int

@@ -1,6 +1,6 @@
 -- By the test of BEV; the offset is at most 180h, so that the sum fits.
 use Rattle.cp0.specs.Exceptions.{vector}
-use Rattle.std.proofs.Common.{rules, eq-eqb, ne_eqb}
+use Rattle.std.proofs.Common.{eq-eqb, ne_eqb}
 use Rattle.cp0.proofs.exceptions.vector.Goals as goal
 
 pub returns-then-status-eq1 : goal.returns-then-status-eq1

@@ -1,7 +1,7 @@
 -- By the number; the value is judged on its low word, in Status by `built_status` and in PageMask by `legal_mask`.
 use Rattle.tlb.specs.PageMask.{legal_mask}
 use Rattle.cp0.specs.Moves.{check_move, built_status}
-use Rattle.std.proofs.Common.{sym, ap, ◌∙◌, rules, eq-eqb, ne_eqb}
+use Rattle.std.proofs.Common.{sym, ap, ◌∙◌, eq-eqb, ne_eqb}
 use Rattle.cp0.proofs.moves.check_move.Goals as goal
 
 pub returns-then-built_status : goal.returns-then-built_status

@@ -1,5 +1,5 @@
 -- By the number: at each key the definition computes to the register that is read.
-use Rattle.std.proofs.Common.{ℕ, sym, ap, rules, ne_eqb}
+use Rattle.std.proofs.Common.{ℕ, sym, ap, ne_eqb}
 use Rattle.cp0.specs.Moves.{word_of}
 use Rattle.cp0.proofs.moves.word_of.Goals as goal
 

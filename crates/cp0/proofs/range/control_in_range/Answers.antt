@@ -1,7 +1,7 @@
 -- By the four tests, in the order of the definition; the last is the answer.
 use Rattle.cp0.proofs.KeptBits.{is_kept, not_kept}
 use Rattle.cp0.specs.Range.{control_in_range}
-use Rattle.std.proofs.Common.{sym, ◌∙◌, rules}
+use Rattle.std.proofs.Common.{sym, ◌∙◌}
 use Rattle.cp0.proofs.range.control_in_range.Goals as goal
 
 pub returns-then-config_in_range : goal.returns-then-config_in_range

@@ -1,6 +1,6 @@
 -- By the first test; the second is the answer.
 use Rattle.cp0.specs.Range.{cp0_in_range}
-use Rattle.std.proofs.Common.{sym, ◌∙◌, rules}
+use Rattle.std.proofs.Common.{sym, ◌∙◌}
 use Rattle.cp0.proofs.range.cp0_in_range.Goals as goal
 
 pub returns-then-entries_in_range : goal.returns-then-entries_in_range

@@ -1,7 +1,6 @@
 -- By the six tests, in the order of the definition; the mask is the answer.
 use Rattle.cp0.proofs.KeptBits.{is_kept, not_kept}
 use Rattle.cp0.specs.Range.{entries_in_range}
-use Rattle.std.proofs.Common.{rules}
 use Rattle.cp0.proofs.range.entries_in_range.Goals as goal
 
 pub returns-then-kept_index-cp0 : goal.returns-then-kept_index-cp0

@@ -1,7 +1,6 @@
 -- By the first test; whether it is built is the answer.
 use Rattle.cp0.proofs.KeptBits.{is_kept, not_kept}
 use Rattle.cp0.specs.Range.{status_in_range}
-use Rattle.std.proofs.Common.{rules}
 use Rattle.cp0.proofs.range.status_in_range.Goals as goal
 
 pub returns-then-kept_status-status : goal.returns-then-kept_status-status

@@ -1,6 +1,5 @@
 -- LLAddr alone is set.
 use Rattle.cp0.specs.Registers.{linked, set}
-use Rattle.std.proofs.Common.{rules}
 use Rattle.cp0.proofs.registers.linked.Goals as goal
 
 pub returns : goal.returns

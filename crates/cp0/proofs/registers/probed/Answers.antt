@@ -1,6 +1,5 @@
 -- Index alone is set.
 use Rattle.cp0.specs.Registers.{probed, set}
-use Rattle.std.proofs.Common.{rules}
 use Rattle.cp0.proofs.registers.probed.Goals as goal
 
 pub returns : goal.returns

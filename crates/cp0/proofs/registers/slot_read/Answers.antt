@@ -1,6 +1,5 @@
 -- Four registers are set, as the definition sets them.
 use Rattle.cp0.specs.Registers.{slot_read, set}
-use Rattle.std.proofs.Common.{rules}
 use Rattle.cp0.proofs.registers.slot_read.Goals as goal
 
 pub returns : goal.returns

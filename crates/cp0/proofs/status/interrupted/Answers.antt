@@ -1,6 +1,6 @@
 -- By the four tests, in the order of the definition.
 use Rattle.cp0.specs.Status.{interrupted}
-use Rattle.std.proofs.Common.{sym, rules, eq-eqb, ne_eqb}
+use Rattle.std.proofs.Common.{sym, eq-eqb, ne_eqb}
 use Rattle.cp0.proofs.status.interrupted.Goals as goal
 
 pub returns-then-status-ne1 : goal.returns-then-status-ne1

@@ -1,6 +1,6 @@
 -- By the tests of User mode and ERL.
 use Rattle.cp0.specs.Status.{mode_of}
-use Rattle.std.proofs.Common.{sym, ◌∙◌, rules, eq-eqb, ne_eqb}
+use Rattle.std.proofs.Common.{sym, ◌∙◌, eq-eqb, ne_eqb}
 use Rattle.cp0.proofs.status.mode_of.Goals as goal
 
 pub returns-then-user : goal.returns-then-user

@@ -1,6 +1,6 @@
 -- By the three tests, in the order of the definition.
 use Rattle.cp0.specs.Tick.{drawn}
-use Rattle.std.proofs.Common.{rules, eq-eqb, ne_eqb}
+use Rattle.std.proofs.Common.{eq-eqb, ne_eqb}
 use Rattle.cp0.proofs.tick.drawn.Goals as goal
 
 pub returns-then-wrote : goal.returns-then-wrote

@@ -1,7 +1,6 @@
 -- Count, Cause and Random are set to what the calls give, as the definition sets them.
 use Rattle.cp0.specs.Tick.{ended, counted}
 use Rattle.cp0.specs.Registers.{set}
-use Rattle.std.proofs.Common.{rules}
 use Rattle.cp0.proofs.tick.ended.Goals as goal
 
 pub returns : goal.returns

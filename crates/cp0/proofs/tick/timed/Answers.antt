@@ -1,6 +1,6 @@
 -- By the test of Count against Compare.
 use Rattle.cp0.specs.Tick.{timed}
-use Rattle.std.proofs.Common.{rules, eq-eqb, ne_eqb}
+use Rattle.std.proofs.Common.{eq-eqb, ne_eqb}
 use Rattle.cp0.proofs.tick.timed.Goals as goal
 
 pub returns-then-count-compare : goal.returns-then-count-compare

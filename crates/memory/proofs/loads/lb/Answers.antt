@@ -2,7 +2,6 @@
 use mathlib.Core.Path.{◌∙◌, ap}
 use Rattle.word.specs.Word.{extend_byte}
 use Rattle.memory.specs.Loads.{lb, lbu}
-use borrow.Author.Rules.{rules}
 use Rattle.memory.proofs.loads.lb.Goals as goal
 
 pub returns : goal.returns

@@ -2,7 +2,6 @@
 use native.Mathlib.Omega.{arith}
 use Rattle.memory.specs.Loads.{lbu}
 use Rattle.memory.proofs.Spans.{span_before}
-use borrow.Author.Rules.{rules}
 use Rattle.memory.proofs.loads.lbu.Goals as goal
 
 pub returns : goal.returns

@@ -2,7 +2,6 @@
 use mathlib.Core.Path.{◌∙◌, ap}
 use Rattle.word.specs.Word.{extend_half}
 use Rattle.memory.specs.Loads.{lh, lhu}
-use borrow.Author.Rules.{rules}
 use Rattle.memory.proofs.loads.lh.Goals as goal
 
 pub returns : goal.returns

@@ -2,7 +2,6 @@
 use mathlib.Core.Path.{◌∙◌, ap}
 use Rattle.word.specs.Word.{extend}
 use Rattle.memory.specs.Loads.{lw, lwu}
-use borrow.Author.Rules.{rules}
 use Rattle.memory.proofs.loads.lw.Goals as goal
 
 pub returns : goal.returns

@@ -2,7 +2,6 @@
 use native.Mathlib.Omega.{arith}
 use Rattle.memory.specs.Loads.{lwu}
 use Rattle.memory.proofs.Spans.{span_before}
-use borrow.Author.Rules.{rules}
 use Rattle.memory.proofs.loads.lwu.Goals as goal
 
 pub returns : goal.returns

@@ -1,11 +1,8 @@
 -- The invariant: what is left to put, put, gives what the whole would.
 use borrow.Author.Rules.{rules}
-use Prim.Native.Nat.{◌+◌, ◌≤◌}
-use mathlib.Core.Path.{◌≡◌, refl, sym, ◌∙◌}
+use mathlib.Core.Path.{refl, sym, ◌∙◌}
 use native.Mathlib.Omega.{arith}
-use lib.ListN.{length, length-set}
-use lib.Seq.{sets}
-use Rattle.memory.specs.Bytes.{bytes_of}
+use lib.ListN.{length-set}
 use Rattle.memory.proofs.Runs.{sets_next, sets_none}
 use Rattle.memory.proofs.stores.put.Goals as goal
 

@@ -1,12 +1,9 @@
 -- The invariant: what is left to put, put, gives what the whole would.
-use borrow.Author.Rules.{rules}
 use Prim.Native.Nat.{◌+◌, ◌≤◌}
-use mathlib.Core.Path.{◌≡◌, refl, sym, ◌∙◌}
-use native.Mathlib.Omega.{arith}
-use lib.ListN.{length, length-set}
+use mathlib.Core.Path.{◌≡◌}
+use lib.ListN.{length}
 use lib.Seq.{sets}
 use Rattle.memory.specs.Bytes.{bytes_of}
-use Rattle.memory.proofs.Runs.{sets_next, sets_none}
 use Rattle.memory.proofs.stores.put.Given as goal
 
 abbrev pub invariant-loop-n : goal.invariant-loop-n

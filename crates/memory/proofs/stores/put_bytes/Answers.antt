@@ -2,7 +2,6 @@
 use mathlib.Core.Path.{refl}
 use borrow.Author.Tests.{lt-ltb, le-ltb, le-leb, lt-leb}
 use Rattle.memory.specs.Stores.{put_bytes, put_answer}
-use borrow.Author.Rules.{rules}
 use Rattle.memory.proofs.stores.put_bytes.Goals as goal
 
 pub returns-then-ram-k : goal.returns-then-ram-k

@@ -1,6 +1,5 @@
 -- To the left and back in two halves: the low bytes.
 use Rattle.memory.proofs.Merges.{low_kept}
-use borrow.Author.Rules.{rules}
 use Rattle.memory.proofs.unaligned.kept_low.Goals as goal
 
 pub returns : goal.returns

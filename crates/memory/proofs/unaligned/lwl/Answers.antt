@@ -4,7 +4,6 @@ use Rattle.word.specs.Word.{extend}
 use Rattle.memory.specs.Bytes.{with_bytes}
 use Rattle.memory.specs.Loads.{lwu}
 use Rattle.memory.specs.Unaligned.{lwl}
-use borrow.Author.Rules.{rules}
 use Rattle.memory.proofs.unaligned.lwl.Goals as goal
 
 pub returns : goal.returns

@@ -1,7 +1,6 @@
 -- The merge of the aligned word, and the two cases of the definition.
 use mathlib.Core.Path.{◌∙◌}
 use Rattle.memory.proofs.Right.{lwr_full, lwr_partial}
-use borrow.Author.Rules.{rules}
 use Rattle.memory.proofs.unaligned.lwr.Goals as goal
 
 pub returns-then-b-eq3 : goal.returns-then-b-eq3

@@ -1,7 +1,6 @@
 -- Each test of the code is one of the definition's.
 use Rattle.tlb.specs.PageMask.{legal_mask}
 use borrow.Author.Tests.{eq-eqb, ne_eqb}
-use borrow.Author.Rules.{rules}
 use Rattle.tlb.proofs.page_mask.legal_mask.Goals as goal
 
 pub returns-then-mask-run : goal.returns-then-mask-run

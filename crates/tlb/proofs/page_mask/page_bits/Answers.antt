@@ -3,7 +3,6 @@ use Prim.Native.Nat.{◌-◌, ◌^◌}
 use native.Mathlib.Omega.{arith}
 use lib.Count.{trailing_le}
 use Rattle.tlb.specs.PageMask.{run, trailing_ones, page_bits}
-use borrow.Author.Rules.{rules}
 use Rattle.tlb.proofs.page_mask.page_bits.Goals as goal
 
 pub overflow_add-result : goal.overflow_add-result

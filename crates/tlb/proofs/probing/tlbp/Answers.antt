@@ -1,7 +1,6 @@
 -- By what the search found.
 use Rattle.tlb.specs.Probe.{probe, probed}
 use mathlib.Core.Path.{sym, ◌∙◌}
-use borrow.Author.Rules.{rules}
 use Rattle.tlb.proofs.probing.tlbp.Goals as goal
 
 pub returns-in-Absent : goal.returns-in-Absent

@@ -1,7 +1,6 @@
 -- Mask, page and halves are tested in the definition's order.
 use Rattle.tlb.specs.Range.{slot_in_range}
 use mathlib.Core.Path.{sym, ◌∙◌}
-use borrow.Author.Rules.{rules}
 use Rattle.tlb.proofs.range.slot_in_range.Goals as goal
 
 pub returns-then-lo_in_range : goal.returns-then-lo_in_range

@@ -1,10 +1,7 @@
 -- The invariant: what is left to test gives the whole answer (`EachSlot`).
 use Prim.Native.Nat.{◌-◌, ◌≤◌}
-use mathlib.Core.Path.{◌≡◌, refl, sym, ◌∙◌}
-use native.Mathlib.Omega.{arith}
+use mathlib.Core.Path.{◌≡◌}
 use Rattle.tlb.specs.Range.{slots_in_range, tlb_in_range}
-use Rattle.tlb.proofs.EachSlot.{each_next, each_out, each_end}
-use borrow.Author.Rules.{rules}
 use Rattle.tlb.proofs.range.tlb_in_range.Given as goal
 
 abbrev pub invariant-loop-i : goal.invariant-loop-i

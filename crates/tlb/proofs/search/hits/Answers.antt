@@ -1,7 +1,6 @@
 -- The page, then the address space, as in the definition.
 use Rattle.tlb.specs.Match.{hits}
 use mathlib.Core.Path.{sym, ◌∙◌}
-use borrow.Author.Rules.{rules}
 use Rattle.tlb.proofs.search.hits.Goals as goal
 
 pub returns-then-same_page : goal.returns-then-same_page

@@ -1,11 +1,9 @@
 -- The invariant: what is left to look through, after what was counted, gives the whole answer (`Seek`).
-use Prim.Native.Nat.{◌-◌, ◌*◌, ◌≤◌}
-use mathlib.Core.Path.{◌≡◌, refl, sym, ◌∙◌}
+use mathlib.Core.Path.{refl, sym, ◌∙◌}
 use native.Mathlib.Omega.{arith}
 use borrow.Author.Rules.{rules}
 use Rattle.tlb.specs.Held.{found_of}
-use Rattle.tlb.specs.Match.{lookup, seek}
-use Rattle.tlb.specs.Translate.{vaddr}
+use Rattle.tlb.specs.Match.{lookup}
 use Rattle.tlb.proofs.Seek.{turn_next, turn_end}
 use Rattle.tlb.proofs.search.lookup.Goals as goal
 

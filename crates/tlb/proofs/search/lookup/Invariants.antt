@@ -1,12 +1,9 @@
 -- The invariant: what is left to look through, after what was counted, gives the whole answer (`Seek`).
 use Prim.Native.Nat.{◌-◌, ◌*◌, ◌≤◌}
-use mathlib.Core.Path.{◌≡◌, refl, sym, ◌∙◌}
-use native.Mathlib.Omega.{arith}
-use borrow.Author.Rules.{rules}
+use mathlib.Core.Path.{◌≡◌}
 use Rattle.tlb.specs.Held.{found_of}
 use Rattle.tlb.specs.Match.{lookup, seek}
 use Rattle.tlb.specs.Translate.{vaddr}
-use Rattle.tlb.proofs.Seek.{turn_next, turn_end}
 use Rattle.tlb.proofs.search.lookup.Given as goal
 
 abbrev pub invariant-loop-turn : goal.invariant-loop-turn

@@ -1,5 +1,4 @@
 -- The slot's mask and page are looked at, and its hit counted.
-use borrow.Author.Rules.{rules}
 use Rattle.tlb.specs.Slot.{slot_at}
 use Rattle.tlb.specs.Match.{seek, matches_at}
 use Rattle.tlb.proofs.search.next.Goals as goal

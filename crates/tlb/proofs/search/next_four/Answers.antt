@@ -1,5 +1,4 @@
 -- Four slots, one after the other (`Seek`).
-use borrow.Author.Rules.{rules}
 use Rattle.tlb.proofs.Seek.{seek_four}
 use Rattle.tlb.proofs.search.next_four.Goals as goal
 

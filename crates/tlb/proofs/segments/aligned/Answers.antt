@@ -2,7 +2,6 @@
 use Rattle.tlb.specs.Segments.{aligned}
 use mathlib.Core.Path.{refl}
 use native.Mathlib.Nat.{mod-one, mod-zero}
-use borrow.Author.Rules.{rules}
 use Rattle.tlb.proofs.segments.aligned.Goals as goal
 
 pub returns-then-align-eq4 : goal.returns-then-align-eq4

@@ -1,7 +1,6 @@
 -- By mode, then by the half of the 32-bit space.
 use Rattle.tlb.specs.Segments.{segment}
 use borrow.Author.Tests.{le-ltb, lt-ltb}
-use borrow.Author.Rules.{rules}
 use Rattle.tlb.proofs.segments.segment.Goals as goal
 
 pub returns-then-word-lt-USEG_END : goal.returns-then-word-lt-USEG_END

@@ -1,7 +1,6 @@
 -- The two address errors first, then the segment.
 use Rattle.tlb.specs.Segments.{translate}
 use mathlib.Core.Path.{sym, ◌∙◌}
-use borrow.Author.Rules.{rules}
 use Rattle.tlb.proofs.segments.translate.Goals as goal
 
 pub returns-then-extended : goal.returns-then-extended

@@ -1,7 +1,6 @@
 -- Two unmapped segments, then a mapped one.
 use Rattle.tlb.specs.Segments.{upper}
 use borrow.Author.Tests.{le-ltb, lt-ltb}
-use borrow.Author.Rules.{rules}
 use Rattle.tlb.proofs.segments.upper.Goals as goal
 
 pub returns-then-word-lt-KSEG2 : goal.returns-then-word-lt-KSEG2

@@ -1,7 +1,6 @@
 -- The code's mask is the definition's.
 use Rattle.tlb.specs.Slot.{cleared}
 use mathlib.Core.Path.{refl}
-use borrow.Author.Rules.{rules}
 use Rattle.tlb.proofs.slots.cleared.Goals as goal
 
 pub returns : goal.returns

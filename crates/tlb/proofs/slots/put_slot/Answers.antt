@@ -1,7 +1,6 @@
 -- Four numbers are set where the slot exists.
 use Rattle.tlb.specs.Slot.{put_slot, set_slot}
 use borrow.Author.Tests.{le-ltb, lt-ltb}
-use borrow.Author.Rules.{rules}
 use Rattle.tlb.proofs.slots.put_slot.Goals as goal
 
 pub returns-then-index-ge48 : goal.returns-then-index-ge48

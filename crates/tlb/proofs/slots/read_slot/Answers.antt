@@ -4,7 +4,6 @@ use mathlib.Core.Path.{◌≡◌}
 use native.Mathlib.Omega.{arith}
 use Rattle.tlb.specs.Slot.{read_slot}
 use borrow.Author.Tests.{le-ltb, lt-ltb}
-use borrow.Author.Rules.{rules}
 use Rattle.tlb.proofs.slots.read_slot.Goals as goal
 
 pub returns-then-index-lt48 : goal.returns-then-index-lt48

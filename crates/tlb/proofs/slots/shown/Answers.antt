@@ -1,7 +1,6 @@
 -- The code puts together what the definition does.
 use Rattle.tlb.specs.Slot.{shown}
 use mathlib.Core.Path.{refl}
-use borrow.Author.Rules.{rules}
 use Rattle.tlb.proofs.slots.shown.Goals as goal
 
 pub returns : goal.returns

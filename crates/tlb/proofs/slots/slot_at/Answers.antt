@@ -1,7 +1,6 @@
 -- The four numbers of the slot.
 use Rattle.tlb.specs.Slot.{slot_at}
 use mathlib.Core.Path.{refl}
-use borrow.Author.Rules.{rules}
 use Rattle.tlb.proofs.slots.slot_at.Goals as goal
 
 pub returns : goal.returns

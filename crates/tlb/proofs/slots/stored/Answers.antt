@@ -2,7 +2,6 @@
 use native.Mathlib.Omega.{arith}
 use Rattle.tlb.specs.Slot.{page, stored}
 use Rattle.tlb.proofs.Kept.{cleared_le, global_le}
-use borrow.Author.Rules.{rules}
 use Rattle.tlb.proofs.slots.stored.Goals as goal
 
 pub overflow_mul-result : goal.overflow_mul-result

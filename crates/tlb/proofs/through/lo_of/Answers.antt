@@ -1,6 +1,5 @@
 -- The half's number is its place behind EntryLo0 (`Kept`).
 use Rattle.tlb.proofs.Kept.{lo_picked}
-use borrow.Author.Rules.{rules}
 use Rattle.tlb.proofs.through.lo_of.Goals as goal
 
 pub returns : goal.returns

@@ -2,7 +2,6 @@
 use mathlib.Core.Path.{sym, ◌∙◌}
 use Rattle.tlb.specs.Translate.{mapped, through_found}
 use Rattle.tlb.proofs.Tells.{one_only}
-use borrow.Author.Rules.{rules}
 use Rattle.tlb.proofs.through.mapped.Goals as goal
 
 pub through_slot-requires : goal.through_slot-requires

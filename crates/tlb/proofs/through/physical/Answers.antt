@@ -1,7 +1,6 @@
 -- No shift or sum loses a bit, since a run has at most 12 ones (`Pages`).
 use native.Mathlib.Omega.{arith}
 use Rattle.tlb.proofs.Pages.{run_le, bits_le, bytes_some, product_fits, sum_fits, physical_code}
-use borrow.Author.Rules.{rules}
 use Rattle.tlb.proofs.through.physical.Goals as goal
 
 pub overflow_shl-bytes : goal.overflow_shl-bytes

@@ -1,7 +1,6 @@
 -- V decides, and the half is the same either way.
 use Rattle.tlb.specs.Translate.{through}
 use borrow.Author.Tests.{eq-eqb, ne_eqb}
-use borrow.Author.Rules.{rules}
 use Rattle.tlb.proofs.through.through.Goals as goal
 
 pub returns-then-lo-eq1 : goal.returns-then-lo-eq1

@@ -5,7 +5,6 @@ use lib.ListN.{get_or}
 use Rattle.tlb.specs.Slot.{slot_at}
 use Rattle.tlb.specs.Translate.{through_slot}
 use Rattle.tlb.proofs.Pages.{bits_le}
-use borrow.Author.Rules.{rules}
 use Rattle.tlb.proofs.through.through_slot.Goals as goal
 
 pub overflow_shr-odd : goal.overflow_shr-odd

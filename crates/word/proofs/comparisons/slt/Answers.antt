@@ -1,5 +1,5 @@
 -- The test is the signed comparison.
-use Rattle.std.proofs.Common.{sym, ◌∙◌, rules}
+use Rattle.std.proofs.Common.{sym, ◌∙◌}
 use Rattle.word.proofs.comparisons.slt.Goals as goal
 
 pub returns-then-tlt : goal.returns-then-tlt

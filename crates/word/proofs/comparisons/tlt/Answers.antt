@@ -1,5 +1,5 @@
 -- The signed type compares the numbers that the registers are.
-use Rattle.std.proofs.Common.{w64, rules}
+use Rattle.std.proofs.Common.{w64}
 use Rattle.word.proofs.CompareLaws.{less_signed_lem}
 use Rattle.word.proofs.comparisons.tlt.Goals as goal
 

@@ -1,6 +1,5 @@
 -- The word is the immediate with sixteen zeros below it.
 use Rattle.word.specs.Logic.{upper}
-use Rattle.std.proofs.Common.{rules}
 use Rattle.word.proofs.logic.lui.Goals as goal
 
 pub returns : goal.returns

@@ -1,5 +1,5 @@
 -- The product of the magnitudes, with its sign turned where the signs differ.
-use Rattle.std.proofs.Common.{◌≡◌, ℕ, ◌+◌, ◌*◌, ◌^◌, pos, ◌*ℤ◌, neg_ℤ, ap, ◌∙◌, div-add-mod', w64, rules}
+use Rattle.std.proofs.Common.{◌≡◌, ℕ, ◌+◌, ◌*◌, ◌^◌, pos, ◌*ℤ◌, neg_ℤ, ap, ◌∙◌, div-add-mod', w64}
 use Rattle.word.specs.declared.HiLo.{HiLo}
 use Rattle.word.specs.Extend.{signed}
 use Rattle.word.specs.Product.{halves, product}

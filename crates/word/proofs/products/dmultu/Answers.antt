@@ -1,5 +1,5 @@
 -- The digits of the whole product are its halves.
-use Rattle.std.proofs.Common.{◌*◌, pos, sym, ◌∙◌, w64, rules}
+use Rattle.std.proofs.Common.{◌*◌, pos, sym, ◌∙◌, w64}
 use Rattle.word.specs.Product.{halves, product_unsigned}
 use Rattle.word.proofs.Registers.{low_whole}
 use Rattle.word.proofs.ProductLaws.{long_halves}

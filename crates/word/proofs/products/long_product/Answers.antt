@@ -1,5 +1,5 @@
 -- A product of 64 bits by the products of its halves: each column fits, and the columns add up to the product.
-use Rattle.std.proofs.Common.{ℕ, ◌*◌, ◌/◌, ◌%◌, ◌≤◌, arith, rules}
+use Rattle.std.proofs.Common.{ℕ, ◌*◌, ◌/◌, ◌%◌, ◌≤◌, arith}
 use Rattle.word.proofs.Columns.{row, column, halves}
 use Rattle.word.proofs.ProductLaws.{digits}
 use Rattle.word.proofs.products.long_product.Goals as goal

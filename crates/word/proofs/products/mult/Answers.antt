@@ -1,5 +1,5 @@
 -- The product of the extended words, wrapped at 2^64, has the halves of the product of the signed words.
-use Rattle.std.proofs.Common.{◌*◌, ◌%◌, ◌^◌, ◌*ℤ◌, ◌∙◌, w32, rules}
+use Rattle.std.proofs.Common.{◌*◌, ◌%◌, ◌^◌, ◌*ℤ◌, ◌∙◌, w32}
 use Rattle.word.specs.Extend.{signed}
 use Rattle.word.specs.Product.{product}
 use Rattle.word.proofs.ProductLaws.{halves_cut, extended_product}

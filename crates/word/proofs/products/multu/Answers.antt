@@ -1,5 +1,5 @@
 -- The product of the low words is below 2^64, and its halves are extended.
-use Rattle.std.proofs.Common.{◌*◌, ◌%◌, ◌^◌, ◌*ℤ◌, ◌∙◌, w32, rules}
+use Rattle.std.proofs.Common.{◌*◌, ◌%◌, ◌^◌, ◌*ℤ◌, ◌∙◌, w32}
 use Rattle.word.specs.Extend.{unsigned}
 use Rattle.word.specs.Product.{product_unsigned}
 use Rattle.word.proofs.ProductLaws.{halves_cut}

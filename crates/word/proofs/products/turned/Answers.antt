@@ -1,5 +1,5 @@
 -- What is left of a number of two digits, where its lower digit is 0 and where it is not.
-use Rattle.std.proofs.Common.{refl, ◌∙◌, arith, lit<, w64, rules}
+use Rattle.std.proofs.Common.{refl, ◌∙◌, arith, lit<, w64}
 use Rattle.word.proofs.ProductLaws.{wholes, turned_even, turned_odd}
 use Rattle.word.proofs.products.turned.Goals as goal
 

@@ -1,5 +1,5 @@
 -- A number below 2^64 is its own double word, and its halves are extended.
-use Rattle.std.proofs.Common.{pos, sym, ◌∙◌, mod-eq_of_lt, w32, rules}
+use Rattle.std.proofs.Common.{pos, sym, ◌∙◌, mod-eq_of_lt, w32}
 use Rattle.word.proofs.ProductLaws.{halves_are}
 use Rattle.word.proofs.products.word_halves.Goals as goal
 

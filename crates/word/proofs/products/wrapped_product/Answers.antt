@@ -1,5 +1,5 @@
 -- The wrapped product is the lower half of the whole one.
-use Rattle.std.proofs.Common.{ap, rules}
+use Rattle.std.proofs.Common.{ap}
 use Rattle.word.specs.declared.HiLo.{HiLo}
 use Rattle.word.proofs.products.wrapped_product.Goals as goal
 

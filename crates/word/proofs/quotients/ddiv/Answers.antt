@@ -1,5 +1,5 @@
 -- The signed type divides as the rule says, where the quotient fits; the least number by -1 is computed.
-use Rattle.std.proofs.Common.{◌≡◌, ◌-◌, ◌^◌, ◌<◌, leb, ℤ, sym, ap, ◌∙◌, w64, SFits, to_z, of_z, rules}
+use Rattle.std.proofs.Common.{◌≡◌, ◌-◌, ◌^◌, ◌<◌, leb, ℤ, sym, ap, ◌∙◌, w64, SFits, to_z, of_z}
 use lib.Signed.{quot_z}
 use Rattle.word.specs.Extend.{low, signed, register}
 use Rattle.word.specs.Quotient.{divided}

@@ -1,5 +1,5 @@
 -- The division of whole registers is that of their low bits.
-use Rattle.std.proofs.Common.{◌/◌, ◌%◌, sym, refl, ◌∙◌, div-le_self, arith, w64, rules}
+use Rattle.std.proofs.Common.{◌/◌, ◌%◌, sym, refl, ◌∙◌, div-le_self, arith, w64}
 use native.Mathlib.Nat.{mod-le}
 use Rattle.word.specs.Extend.{extend}
 use Rattle.word.proofs.Registers.{whole, low_whole}

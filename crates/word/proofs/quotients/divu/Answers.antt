@@ -1,5 +1,5 @@
 -- The low words are divided, and the results extended.
-use Rattle.std.proofs.Common.{◌/◌, ◌%◌, sym, refl, ◌∙◌, w32, rules}
+use Rattle.std.proofs.Common.{◌/◌, ◌%◌, sym, refl, ◌∙◌, w32}
 use Rattle.word.specs.Extend.{extend}
 use Rattle.word.proofs.QuotientLaws.{by_zero_unsigned, gives_unsigned}
 use Rattle.word.proofs.quotients.divu.Goals as goal

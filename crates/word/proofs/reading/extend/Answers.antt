@@ -1,5 +1,5 @@
 -- Sign extension adds ones above the low bits where their highest is set.
-use Rattle.std.proofs.Common.{lit≤, w32, rules}
+use Rattle.std.proofs.Common.{lit≤, w32}
 use Rattle.word.proofs.Registers.{extend_low, extend_high}
 use Rattle.word.proofs.reading.extend.Goals as goal
 

@@ -1,5 +1,5 @@
 -- The magnitude of a number below 0 is what is left of the pattern of ones, and one more.
-use Rattle.std.proofs.Common.{ℕ, ◌+◌, ◌-◌, ◌^◌, sym, ap, ◌∙◌, arith, w64, rules}
+use Rattle.std.proofs.Common.{ℕ, ◌+◌, ◌-◌, ◌^◌, sym, ap, ◌∙◌, arith, w64}
 use Rattle.word.proofs.Registers.{low_whole, magnitude_low, magnitude_high}
 use Rattle.word.proofs.reading.magnitude.Goals as goal
 

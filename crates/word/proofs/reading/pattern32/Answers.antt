@@ -1,5 +1,5 @@
 -- A word's number is the same number of a doubleword.
-use Rattle.std.proofs.Common.{ap, ◌∙◌, lit≤, w32, w64, of_z, rules}
+use Rattle.std.proofs.Common.{ap, ◌∙◌, lit≤, w32, w64, of_z}
 use Rattle.word.proofs.Patterns.{wider_fits, wider}
 use Rattle.word.proofs.reading.pattern32.Goals as goal
 

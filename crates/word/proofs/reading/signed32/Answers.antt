@@ -1,5 +1,5 @@
 -- The upper half of the patterns are the numbers counted down from -1.
-use Rattle.std.proofs.Common.{w32, rules}
+use Rattle.std.proofs.Common.{w32}
 use mir.ValLaws.{Fits-wrap}
 use Rattle.word.proofs.Patterns.{down_fits, down}
 use Rattle.word.proofs.reading.signed32.Goals as goal

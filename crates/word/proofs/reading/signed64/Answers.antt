@@ -1,5 +1,5 @@
 -- The upper half of the patterns are the numbers counted down from -1.
-use Rattle.std.proofs.Common.{sym, ap, ◌∙◌, w64, to_z, rules}
+use Rattle.std.proofs.Common.{sym, ap, ◌∙◌, w64, to_z}
 use Rattle.word.proofs.Patterns.{down_fits, down}
 use Rattle.word.proofs.Registers.{low_whole}
 use Rattle.word.proofs.reading.signed64.Goals as goal

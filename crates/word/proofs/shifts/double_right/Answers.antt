@@ -1,5 +1,5 @@
 -- A doubleword is its own extension and its own low bits.
-use Rattle.std.proofs.Common.{ℕ, ◌/◌, ◌^◌, sym, ap, ◌∙◌, div-le_self, arith, w64, rules}
+use Rattle.std.proofs.Common.{ℕ, ◌/◌, ◌^◌, sym, ap, ◌∙◌, div-le_self, arith, w64}
 use Rattle.word.proofs.Registers.{whole, low_whole}
 use Rattle.word.proofs.ShiftLaws.{right_is}
 use Rattle.word.proofs.shifts.double_right.Goals as goal

@@ -1,5 +1,5 @@
 -- The signed type shifts the number that the register is.
-use Rattle.std.proofs.Common.{◌∙◌, w64, rules}
+use Rattle.std.proofs.Common.{◌∙◌, w64}
 use Rattle.word.proofs.ShiftLaws.{shift_seen, right_signed_is}
 use Rattle.word.proofs.shifts.double_right_signed.Goals as goal
 

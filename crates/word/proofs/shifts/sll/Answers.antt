@@ -1,5 +1,5 @@
 -- The low word of the register's shift is that of the word.
-use Rattle.std.proofs.Common.{◌%◌, refl, ◌∙◌, w32, rules}
+use Rattle.std.proofs.Common.{◌%◌, refl, ◌∙◌, w32}
 use Rattle.word.proofs.ShiftLaws.{left_is}
 use Rattle.word.proofs.shifts.sll.Goals as goal
 

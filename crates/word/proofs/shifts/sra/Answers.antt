@@ -1,5 +1,5 @@
 -- The signed type shifts the number that the word is.
-use Rattle.std.proofs.Common.{◌%◌, ◌∙◌, w32, rules}
+use Rattle.std.proofs.Common.{◌%◌, ◌∙◌, w32}
 use Rattle.word.proofs.ShiftLaws.{shift_seen, right_signed_is}
 use Rattle.word.proofs.shifts.sra.Goals as goal
 

@@ -1,5 +1,5 @@
 -- The low word is shifted, and the result extended.
-use Rattle.std.proofs.Common.{◌%◌, refl, ◌∙◌, w32, rules}
+use Rattle.std.proofs.Common.{◌%◌, refl, ◌∙◌, w32}
 use Rattle.word.proofs.ShiftLaws.{right_is}
 use Rattle.word.proofs.shifts.srl.Goals as goal
 

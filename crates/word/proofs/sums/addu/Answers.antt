@@ -1,5 +1,5 @@
 -- The low word of the wrapped sum of registers is that of the sum of words.
-use Rattle.std.proofs.Common.{◌∙◌, w32, rules}
+use Rattle.std.proofs.Common.{◌∙◌, w32}
 use Rattle.word.proofs.SumLaws.{sum_is}
 use Rattle.word.proofs.sums.addu.Goals as goal
 

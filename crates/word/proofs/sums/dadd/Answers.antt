@@ -1,5 +1,5 @@
 -- A sum overflows where it has another sign than both that were added.
-use Rattle.std.proofs.Common.{lit≤, w64, rules}
+use Rattle.std.proofs.Common.{lit≤, w64}
 use Rattle.word.proofs.Registers.{whole}
 use Rattle.word.proofs.Overflow.{sum_checked}
 use Rattle.word.proofs.sums.dadd.Goals as goal

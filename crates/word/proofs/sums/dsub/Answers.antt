@@ -1,5 +1,5 @@
 -- A difference overflows where adding back has another sign.
-use Rattle.std.proofs.Common.{lit≤, w64, rules}
+use Rattle.std.proofs.Common.{lit≤, w64}
 use Rattle.word.proofs.Registers.{whole}
 use Rattle.word.proofs.Overflow.{difference_checked}
 use Rattle.word.proofs.sums.dsub.Goals as goal

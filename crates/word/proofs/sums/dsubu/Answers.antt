@@ -1,5 +1,5 @@
 -- A doubleword is its own extension, and the wrapped difference of registers is that of doublewords.
-use Rattle.std.proofs.Common.{◌∙◌, w64, rules}
+use Rattle.std.proofs.Common.{◌∙◌, w64}
 use Rattle.word.proofs.Registers.{whole}
 use Rattle.word.proofs.SumLaws.{difference_is}
 use Rattle.word.proofs.sums.dsubu.Goals as goal

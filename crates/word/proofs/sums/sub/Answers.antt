@@ -1,5 +1,5 @@
 -- A difference overflows where adding back has another sign.
-use Rattle.std.proofs.Common.{lit≤, w32, rules}
+use Rattle.std.proofs.Common.{lit≤, w32}
 use Rattle.word.proofs.Overflow.{difference_checked}
 use Rattle.word.proofs.sums.sub.Goals as goal
 

@@ -1,5 +1,5 @@
 -- The low word of the wrapped difference of registers is that of the difference of words.
-use Rattle.std.proofs.Common.{◌∙◌, w32, rules}
+use Rattle.std.proofs.Common.{◌∙◌, w32}
 use Rattle.word.proofs.SumLaws.{difference_is}
 use Rattle.word.proofs.sums.subu.Goals as goal
 

@@ -1,7 +1,7 @@
 -- Laws of reading: by case of whose the address is, and on which bytes a read depends.
 use Prim.Native.Nat.{ℕ, ◌+◌, ◌-◌, ◌*◌, ◌/◌, ◌^◌, ◌≤◌, ◌<◌}
 use Rattle.std.proofs.Common.{arith, sym, ◌∙◌, ap₂, length-take, length-drop, ext_get_or, get_or-take, get_or-drop, lt-ltb, le-ltb, le-leb, leb-true, ltb-true}
-use Rattle.std.specs.Prelude.{◌≡◌, get_or, take, drop}
+use Rattle.std.specs.Prelude.{◌≡◌, get_or, drop}
 use Rattle.std.proofs.Math.Path.{refl, ap}
 use mathlib.Core.List.{List, []}
 use Rattle.std.proofs.Math.Bool.{Bool, true, false}

@@ -1,7 +1,7 @@
 -- A load of the place that a store wrote gives the value back.
 use Prim.Native.Nat.{ℕ, zero, suc, ◌+◌, ◌-◌, ◌*◌, ◌/◌, ◌%◌, ◌^◌, ◌<◌}
 use native.Mathlib.Omega.{arith}
-use Rattle.std.specs.Prelude.{◌≡◌, refl, true, length, get_or}
+use Rattle.std.specs.Prelude.{◌≡◌, true, length, get_or}
 use Rattle.std.proofs.Math.Path.{sym, ap}
 use Rattle.std.proofs.Common.{◌∙◌, lit<}
 use mathlib.Core.List.{List}
@@ -11,7 +11,7 @@ use Rattle.memory.specs.declared.Store.TheVariants.{Write}
 use Rattle.memory.specs.Bytes.{byte, eight_of}
 use Rattle.memory.specs.BytesLaws.{byte_shift, same_bytes}
 use Rattle.memory.specs.Memory.{eight_at, part, read}
-use Rattle.memory.specs.MemoryLaws.{eight_byte, part_ram, read_ram}
+use Rattle.memory.proofs.MemoryLaws.{eight_byte, part_ram, read_ram}
 use Rattle.memory.specs.Loads.{span, field}
 use Rattle.memory.specs.Stores.{lands, put_bytes}
 use Rattle.memory.specs.StoreLaws.{Bytes, bytes_put, length_put, landing, put_byte}

@@ -1,6 +1,8 @@
 // Makes the image of a kernel and programs.
 #![tactic(auto)]
 
-fn main() {
-    cardimage_main::cardimage();
+use std::process::ExitCode;
+
+fn main(rt: HostRuntime) -> ExitCode {
+    program::exit_code(cardimage_main::cardimage(&rt, &mut rt.stdin()))
 }

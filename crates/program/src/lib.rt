@@ -1,13 +1,15 @@
 // How a program takes its whole input, gives its whole answer, and ends.
 #![tactic(auto)]
 
-ghost use Rattle.std.specs.Prelude.{◌≡◌, ◌≤◌};
+ghost use Rattle.std.specs.Prelude.{◌≡◌, ◌≤◌, pos};
+ghost use Rattle.std.specs.Process.{exit_status};
 ghost use Rattle.program.specs.Ends.{status_of, end_of};
 ghost use Rattle.program.specs.Within.{Within};
 ghost use Rattle.program.specs.declared.End.TheVariants.{Unread, Unwritten, Misused, Refused};
 
 use std::env::{Env, FillError};
 use std::io::Read;
+use std::process::ExitCode;
 use std::rt::Files;
 use std::{fs, str};
 
@@ -39,6 +41,13 @@ pub fn status(end: End) -> i32
         End::Misused => 2,
         End::Refused => 3,
     }
+}
+
+// The status of an end, as `main` returns it.
+pub fn exit_code(end: End) -> ExitCode
+    ensures { pos (exit_status result) ≡ status_of end }
+{
+    ExitCode::from(status(end) as u8)
 }
 
 // Reads until `buf` is full or the input ends; a read that fails, or would block, is Failed, whatever came before.

@@ -3,42 +3,41 @@
 
 ghost use Rattle.programs.specs.Statuses.{IsStatus};
 
+use std::env::Env;
+use std::io::Read;
+use std::rt::Files;
+
 // The status of `cardrun`.
-#[unsafe(no_mangle)]
-pub extern "C" fn cardrun_status() -> i32
+pub fn cardrun_status<R: Env + Print + Eprint, I: Read>(rt: &R, input: &mut I) -> i32
     ensures { IsStatus result }
 {
-    program::status(cardrun_main::cardrun())
+    program::status(cardrun_main::cardrun(rt, input))
 }
 
 // The status of `cardstate`.
-#[unsafe(no_mangle)]
-pub extern "C" fn cardstate_status() -> i32
+pub fn cardstate_status<R: Env + Files + Print + Eprint, I: Read>(rt: &R, input: &mut I) -> i32
     ensures { IsStatus result }
 {
-    program::status(cardstate_main::cardstate())
+    program::status(cardstate_main::cardstate(rt, input))
 }
 
 // The status of `cardimage`.
-#[unsafe(no_mangle)]
-pub extern "C" fn cardimage_status() -> i32
+pub fn cardimage_status<R: Env + Files + Print + Eprint, I: Read>(rt: &R, input: &mut I) -> i32
     ensures { IsStatus result }
 {
-    program::status(cardimage_main::cardimage())
+    program::status(cardimage_main::cardimage(rt, input))
 }
 
 // The status of `vectors`.
-#[unsafe(no_mangle)]
-pub extern "C" fn vectors_status() -> i32
+pub fn vectors_status<R: Env + Files + Print + Eprint, I: Read>(rt: &R, input: &mut I) -> i32
     ensures { IsStatus result }
 {
-    program::status(vectors::vectors())
+    program::status(vectors::vectors(rt, input))
 }
 
 // The status of `benchcard`.
-#[unsafe(no_mangle)]
-pub extern "C" fn benchcard_status() -> i32
+pub fn benchcard_status<R: Env + Print + Eprint>(rt: &R) -> i32
     ensures { IsStatus result }
 {
-    program::status(benchcard::benchcard())
+    program::status(benchcard::benchcard(rt))
 }

@@ -1,12 +1,11 @@
 -- What the code of a step did is a step, and the turns of a run's loop.
-use Prim.Native.Nat.{ℕ, suc, zero, ◌+◌, ◌-◌, ◌<◌, ◌≤◌}
+use Prim.Native.Nat.{ℕ, suc, ◌+◌, ◌-◌, ◌<◌, ◌≤◌}
 use mathlib.Core.Path.{◌≡◌, refl, sym, ◌∙◌, ap}
 use mathlib.Core.Bool.{Bool, true, false}
 use mathlib.Core.List.{List}
 use native.Mathlib.Omega.{arith}
 use lib.Dec.{eqb}
 use borrow.Author.Tests.{eq-eqb, eqb-true, ne_eqb}
-use Rattle.promise.specs.Pick.{pick}
 use Rattle.memory.specs.Memory.{read}
 use Rattle.memory.specs.Stores.{put_bytes}
 use Rattle.tlb.specs.Slot.{put_slot}
@@ -17,11 +16,9 @@ use Rattle.effect.specs.Step.{effect_of}
 use Rattle.effect.specs.After.{cpu_after, cp0_after}
 use Rattle.card.specs.declared.Machine.{Machine}
 use Rattle.card.specs.declared.Cored.{Cored}
-use Rattle.card.specs.declared.Ran.{Ran}
-use Rattle.card.specs.declared.Stepped.{Stepped}
 use Rattle.card.specs.Machine.{machine}
 use Rattle.card.specs.Step.{Out, Did, apply, put_reg, step_of}
-use Rattle.card.specs.Run.{Whole, whole, plus, following, refusal, steps, run_of, ran, stepped}
+use Rattle.card.specs.Run.{Whole, whole, plus, following, refusal, steps, run_of, stepped}
 
 -- ---- a step
 

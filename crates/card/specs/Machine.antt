@@ -1,6 +1,6 @@
 -- The machine: fresh (T28, T29), and the range that a run accepts (N21 to N25).
-use Rattle.std.specs.Prelude.{ℕ, zero, suc, ◌+◌, ◌*◌, Bool, true, false, List, [], ◌∷◌, eqb, get_or, replicate}
-use Rattle.promise.specs.Pick.{pick, both, either}
+use Rattle.std.specs.Prelude.{ℕ, zero, suc, ◌+◌, ◌*◌, Bool, false, List, [], ◌∷◌, eqb, get_or, replicate}
+use Rattle.promise.specs.Pick.{both, either}
 use Rattle.tlb.specs.Range.{tlb_in_range}
 use Rattle.cp0.specs.declared.Cp0.{Cp0}
 use Rattle.cp0.specs.Range.{cp0_in_range}

@@ -1,5 +1,5 @@
 -- A run: the refusals 1 to 4 in order, then at most `budget` steps; the numbers that a call gives back (N1 to N25).
-use Rattle.std.specs.Prelude.{ℕ, suc, zero, ◌+◌, ◌%◌, Bool, true, false, List, eqb, leb, length}
+use Rattle.std.specs.Prelude.{ℕ, suc, zero, ◌+◌, ◌%◌, Bool, List, eqb, leb, length}
 use Rattle.promise.specs.Pick.{pick, both}
 use Rattle.card.specs.declared.Machine.{Machine}
 use Rattle.card.specs.declared.Ran.{Ran}

@@ -9,7 +9,6 @@ use Rattle.effect.specs.Step.{effect_of}
 use Rattle.effect.specs.After.{cpu_after, cp0_after}
 use Rattle.card.specs.declared.Machine.{Machine}
 use Rattle.card.specs.declared.Cored.{Cored}
-use Rattle.card.specs.declared.Stepped.{Stepped}
 use Rattle.card.specs.Machine.{machine}
 
 -- a register is written; r0 never is, whatever the number

@@ -1,4 +1,3 @@
 -- The rulebook's checks between decoding and execution.
 pub mod Doubleword
 pub mod Ready
-pub mod Words

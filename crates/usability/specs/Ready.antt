@@ -7,7 +7,6 @@ use Rattle.decode.specs.declared.Decoded.{Decoded}
 use Rattle.decode.specs.declared.Decoded.TheVariants.{Is, Coprocessor, ReservedCop0, Reserved}
 use Rattle.usability.specs.declared.Ready.{Ready}
 use Rattle.usability.specs.declared.Ready.TheVariants.{Go, Unusable, InSlot}
-use Rattle.usability.specs.declared.Ready.TheVariants as Ready
 use Rattle.usability.specs.Doubleword.{is_double}
 
 -- a CP0 instruction, or CACHE (T21)

@@ -1,6 +1,5 @@
 -- By where the bytes were found.
 use Rattle.access.specs.Access.{got}
-use borrow.Author.Rules.{rules}
 use Rattle.access.proofs.data.got.Goals as goal
 
 pub returns-in-Ram : goal.returns-in-Ram

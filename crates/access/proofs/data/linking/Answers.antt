@@ -1,6 +1,5 @@
 -- By the load: only LL and LLD link.
 use Rattle.access.specs.Access.{linking}
-use borrow.Author.Rules.{rules}
 use Rattle.access.proofs.data.linking.Goals as goal
 
 pub returns-in-LB : goal.returns-in-LB

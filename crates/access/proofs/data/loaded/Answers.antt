@@ -1,6 +1,5 @@
 -- By where the address leads.
 use Rattle.access.specs.Access.{loaded}
-use borrow.Author.Rules.{rules}
 use Rattle.access.proofs.data.loaded.Goals as goal
 
 pub returns-in-Mapped : goal.returns-in-Mapped

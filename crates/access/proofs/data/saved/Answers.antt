@@ -1,6 +1,5 @@
 -- By where the address leads, and by D of a mapped page.
 use Rattle.access.specs.Access.{saved}
-use borrow.Author.Rules.{rules}
 use Rattle.access.proofs.data.saved.Goals as goal
 
 pub returns-then-h : goal.returns-then-h

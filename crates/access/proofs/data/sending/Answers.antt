@@ -1,6 +1,5 @@
 -- By the store: only SC and SCD look at the link bit.
 use Rattle.access.specs.Access.{sending}
-use borrow.Author.Rules.{rules}
 use Rattle.access.proofs.data.sending.Goals as goal
 
 pub returns-in-SB : goal.returns-in-SB

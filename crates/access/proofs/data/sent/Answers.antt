@@ -1,6 +1,5 @@
 -- By where the bytes are.
 use Rattle.access.specs.Access.{sent}
-use borrow.Author.Rules.{rules}
 use Rattle.access.proofs.data.sent.Goals as goal
 
 pub returns-in-Ram : goal.returns-in-Ram

@@ -1,6 +1,5 @@
 -- By where PC leads.
 use Rattle.access.specs.Fetch.{word_at}
-use borrow.Author.Rules.{rules}
 use Rattle.access.proofs.fetch.word_at.Goals as goal
 
 pub returns-in-Mapped : goal.returns-in-Mapped

@@ -1,6 +1,5 @@
 -- By where the bytes were found.
 use Rattle.access.specs.Fetch.{word_found}
-use borrow.Author.Rules.{rules}
 use Rattle.access.proofs.fetch.word_found.Goals as goal
 
 pub returns-in-Ram : goal.returns-in-Ram

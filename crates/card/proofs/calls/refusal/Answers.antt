@@ -2,7 +2,6 @@
 use Rattle.card.specs.Run.{refusal_by}
 use borrow.Author.Tests.{le-leb, lt-leb}
 use mathlib.Core.Path.{sym, ◌∙◌}
-use borrow.Author.Rules.{rules}
 use Rattle.card.proofs.calls.refusal.Goals as goal
 
 pub returns-then-in_range : goal.returns-then-in_range

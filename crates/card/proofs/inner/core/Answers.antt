@@ -1,6 +1,5 @@
 -- `core` meets its contract: what it computed and wrote is the step's outcome.
 use Rattle.card.proofs.Laws.{core-did}
-use borrow.Author.Rules.{rules}
 use Rattle.card.proofs.inner.core.Goals as goal
 
 pub returns : goal.returns

@@ -1,7 +1,6 @@
 -- The code's test is the definition's, and it writes the same place.
 use Rattle.card.specs.Step.{put_reg}
 use borrow.Author.Tests.{eq-eqb, ne_eqb}
-use borrow.Author.Rules.{rules}
 use Rattle.card.proofs.inner.put_reg.Goals as goal
 
 pub returns : goal.returns

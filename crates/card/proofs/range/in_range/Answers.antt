@@ -2,7 +2,6 @@
 use Rattle.card.specs.Machine.{in_range}
 use borrow.Author.Tests.{eq-eqb, ne_eqb}
 use mathlib.Core.Path.{sym, ◌∙◌}
-use borrow.Author.Rules.{rules}
 use Rattle.card.proofs.range.in_range.Goals as goal
 
 pub returns-then-regs-ne0 : goal.returns-then-regs-ne0

@@ -1,10 +1,7 @@
 -- `run` meets its contract: the steps done and those left are the whole run.
-use Prim.Native.Nat.{◌-◌, ◌≤◌}
-use mathlib.Core.Path.{◌≡◌, refl, sym, ap, ◌∙◌}
-use lib.ListN.{length}
+use mathlib.Core.Path.{refl, sym, ap, ◌∙◌}
 use borrow.Author.Rules.{rules}
-use Rattle.card.specs.Machine.{machine}
-use Rattle.card.specs.Run.{Whole, plus, steps, ran}
+use Rattle.card.specs.Run.{Whole, ran}
 use Rattle.card.proofs.Laws.{refused, accepted, begins, goes_on, ends_here, spent}
 use Rattle.card.proofs.runs.run.Goals as goal
 

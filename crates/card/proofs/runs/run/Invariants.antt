@@ -1,11 +1,9 @@
 -- `run` meets its contract: the steps done and those left are the whole run.
 use Prim.Native.Nat.{◌-◌, ◌≤◌}
-use mathlib.Core.Path.{◌≡◌, refl, sym, ap, ◌∙◌}
+use mathlib.Core.Path.{◌≡◌}
 use lib.ListN.{length}
-use borrow.Author.Rules.{rules}
 use Rattle.card.specs.Machine.{machine}
-use Rattle.card.specs.Run.{Whole, plus, steps, ran}
-use Rattle.card.proofs.Laws.{refused, accepted, begins, goes_on, ends_here, spent}
+use Rattle.card.specs.Run.{plus, steps}
 use Rattle.card.proofs.runs.run.Given as goal
 
 abbrev pub invariant-loop-i : goal.invariant-loop-i

@@ -2,7 +2,6 @@
 use mathlib.Core.Path.{ap, ◌∙◌}
 use Rattle.card.specs.Run.{Whole, stepped}
 use Rattle.card.proofs.Laws.{refused, accepted, one_step}
-use borrow.Author.Rules.{rules}
 use Rattle.card.proofs.runs.step.Goals as goal
 
 pub returns-then-no-ne0 : goal.returns-then-no-ne0

@@ -1,6 +1,5 @@
 -- The parts of the fresh machine are the definition's.
 use Rattle.card.specs.Machine.{fresh}
-use borrow.Author.Rules.{rules}
 use Rattle.card.proofs.start.fresh.Goals as goal
 
 pub returns : goal.returns

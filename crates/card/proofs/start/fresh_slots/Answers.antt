@@ -1,10 +1,7 @@
 -- The invariant: the turns that are left lead from the slots so far to the definition's 48; from zeros they do by computation.
-use Prim.Native.Nat.{ℕ, zero, suc, ◌+◌, ◌*◌, ◌-◌, ◌≤◌}
+use Prim.Native.Nat.{ℕ, suc, ◌+◌, ◌-◌}
 use mathlib.Core.Path.{◌≡◌, refl, sym, ap, ◌∙◌}
-use mathlib.Core.List.{List}
 use native.Mathlib.Omega.{arith}
-use borrow.Author.Rules.{rules}
-use lib.ListN.{set}
 use Rattle.card.specs.Machine.{fresh_slots}
 use Rattle.card.proofs.start.fresh_slots.Invariants.{turns}
 use Rattle.card.proofs.start.fresh_slots.Goals as goal

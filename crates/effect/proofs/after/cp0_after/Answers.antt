@@ -1,6 +1,5 @@
 -- By the turn: each calls the function of CP0 that the definition names.
 use Rattle.effect.specs.After.{cp0_after}
-use Rattle.std.proofs.Common.{rules}
 use Rattle.effect.proofs.after.cp0_after.Goals as goal
 
 pub returns-in-Next : goal.returns-in-Next

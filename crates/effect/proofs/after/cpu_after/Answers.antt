@@ -1,6 +1,5 @@
 -- By the turn: each goes on as the definition says.
 use Rattle.effect.specs.After.{cpu_after}
-use Rattle.std.proofs.Common.{rules}
 use Rattle.effect.proofs.after.cpu_after.Goals as goal
 
 pub returns-in-Next : goal.returns-in-Next

@@ -1,6 +1,5 @@
 -- The one test is the definition's.
 use Rattle.effect.specs.After.{onward}
-use Rattle.std.proofs.Common.{rules}
 use Rattle.effect.proofs.after.onward.Goals as goal
 
 pub returns-then-cpu : goal.returns-then-cpu

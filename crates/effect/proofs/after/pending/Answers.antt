@@ -1,6 +1,5 @@
 -- The code puts together what the definition does.
 use Rattle.effect.specs.After.{pending}
-use Rattle.std.proofs.Common.{rules}
 use Rattle.effect.proofs.after.pending.Goals as goal
 
 pub returns : goal.returns

@@ -1,6 +1,5 @@
 -- By what the instruction asks for.
 use Rattle.effect.specs.Step.{asked}
-use Rattle.std.proofs.Common.{rules}
 use Rattle.effect.proofs.asked.asked.Goals as goal
 
 pub returns-in-Nothing : goal.returns-in-Nothing

@@ -1,6 +1,5 @@
 -- By the CP0 instruction.
 use Rattle.effect.specs.Step.{commanded}
-use Rattle.std.proofs.Common.{rules}
 use Rattle.effect.proofs.asked.commanded.Goals as goal
 
 pub returns-in-MoveFrom : goal.returns-in-MoveFrom

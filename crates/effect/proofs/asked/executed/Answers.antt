@@ -1,6 +1,5 @@
 -- By the kind of instruction.
 use Rattle.effect.specs.Step.{executed}
-use Rattle.std.proofs.Common.{rules}
 use Rattle.effect.proofs.asked.executed.Goals as goal
 
 pub returns-in-Plain : goal.returns-in-Plain

@@ -1,6 +1,5 @@
 -- By what the probe found.
 use Rattle.effect.specs.Step.{from_probe}
-use Rattle.std.proofs.Common.{rules}
 use Rattle.effect.proofs.asked.from_probe.Goals as goal
 
 pub returns-in-Index : goal.returns-in-Index

@@ -1,6 +1,5 @@
 -- By whether the slot exists.
 use Rattle.effect.specs.Step.{from_slot}
-use Rattle.std.proofs.Common.{rules}
 use Rattle.effect.proofs.asked.from_slot.Goals as goal
 
 pub returns-in-Is : goal.returns-in-Is

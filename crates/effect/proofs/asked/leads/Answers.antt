@@ -1,5 +1,4 @@
 -- The translation is called with what the definition gives it.
-use Rattle.std.proofs.Common.{rules}
 use Rattle.effect.proofs.asked.leads.Goals as goal
 
 pub returns : goal.returns

@@ -1,5 +1,4 @@
 -- The code puts together what the definition does.
-use Rattle.std.proofs.Common.{rules}
 use Rattle.effect.proofs.asked.moved.Goals as goal
 
 pub returns : goal.returns

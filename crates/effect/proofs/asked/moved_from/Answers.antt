@@ -1,5 +1,4 @@
 -- The one test is the definition's.
-use Rattle.std.proofs.Common.{rules}
 use Rattle.effect.proofs.asked.moved_from.Goals as goal
 
 pub returns : goal.returns

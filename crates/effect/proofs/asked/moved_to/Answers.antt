@@ -1,6 +1,5 @@
 -- By whether the move is built.
 use Rattle.effect.specs.Step.{moved_to}
-use Rattle.std.proofs.Common.{rules}
 use Rattle.effect.proofs.asked.moved_to.Goals as goal
 
 pub returns-in-Built : goal.returns-in-Built

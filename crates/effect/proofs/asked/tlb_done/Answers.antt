@@ -1,6 +1,5 @@
 -- By the TLB operation.
 use Rattle.effect.specs.Step.{tlb_done}
-use Rattle.std.proofs.Common.{rules}
 use Rattle.effect.proofs.asked.tlb_done.Goals as goal
 
 pub returns-in-TLBR : goal.returns-in-TLBR

@@ -1,6 +1,5 @@
 -- By what the fetch came to.
 use Rattle.effect.specs.Step.{begun}
-use Rattle.std.proofs.Common.{rules}
 use Rattle.effect.proofs.step.begun.Goals as goal
 
 pub returns-in-Word : goal.returns-in-Word

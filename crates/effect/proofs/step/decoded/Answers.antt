@@ -1,6 +1,5 @@
 -- The stages are called in the definition's order.
 use Rattle.effect.specs.Step.{decoded}
-use Rattle.std.proofs.Common.{rules}
 use Rattle.effect.proofs.step.decoded.Goals as goal
 
 pub returns : goal.returns

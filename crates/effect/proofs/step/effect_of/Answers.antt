@@ -1,6 +1,6 @@
 -- The interrupt, then the fetch, as in the definition.
 use Rattle.effect.specs.Step.{effect_of}
-use Rattle.std.proofs.Common.{sym, ◌∙◌, rules}
+use Rattle.std.proofs.Common.{sym, ◌∙◌}
 use Rattle.effect.proofs.step.effect_of.Goals as goal
 
 pub returns-then-interrupted : goal.returns-then-interrupted

@@ -1,6 +1,5 @@
 -- By whether the word may be executed.
 use Rattle.effect.specs.Step.{readied}
-use Rattle.std.proofs.Common.{rules}
 use Rattle.effect.proofs.step.readied.Goals as goal
 
 pub returns-in-Go : goal.returns-in-Go

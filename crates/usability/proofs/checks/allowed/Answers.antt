@@ -1,6 +1,5 @@
 -- The tests pick as the definition picks.
 use mathlib.Core.Path.{sym, ◌∙◌}
-use borrow.Author.Rules.{rules}
 use Rattle.usability.specs.Ready.{allowed}
 use Rattle.usability.proofs.checks.allowed.Goals as goal
 

@@ -1,6 +1,5 @@
 -- The tests pick as the definition picks.
 use mathlib.Core.Path.{sym, ◌∙◌}
-use borrow.Author.Rules.{rules}
 use Rattle.usability.specs.Ready.{in_place}
 use Rattle.usability.proofs.checks.in_place.Goals as goal
 

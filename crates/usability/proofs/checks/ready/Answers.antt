@@ -1,6 +1,5 @@
 -- Each case of the word is told as a constructor, at which the definition computes.
 use mathlib.Core.Path.{◌∙◌}
-use borrow.Author.Rules.{rules}
 use Rattle.usability.specs.Ready.{ready}
 use Rattle.decode.proofs.Laws.{met}
 use Rattle.usability.proofs.checks.ready.Goals as goal

@@ -1,6 +1,5 @@
 -- The tests pick as the definition picks.
 use mathlib.Core.Path.{sym, ◌∙◌}
-use borrow.Author.Rules.{rules}
 use Rattle.usability.specs.Ready.{usable}
 use Rattle.usability.proofs.checks.usable.Goals as goal
 

@@ -1,6 +1,6 @@
 -- What it is to have written a text into a lent buffer, and how two texts become one.
-use Rattle.std.specs.Prelude.{ℕ, suc, ◌+◌, ◌≤◌, ◌≡◌, refl, List, [], ◌∷◌, ◌++◌, length, set}
-use Rattle.std.proofs.Common.{arith, sym, ◌∙◌, ap, length-append}
+use Rattle.std.specs.Prelude.{ℕ, suc, ◌+◌, ◌≡◌, refl, List, [], ◌∷◌, ◌++◌, length, set}
+use Rattle.std.proofs.Common.{arith, ◌∙◌, length-append}
 use Rattle.std.proofs.lemmas.List.Edits.{sets}
 
 -- the buffer holds the text from `at` on, as far as it reaches, and is otherwise as it was; `end` is where the text ends

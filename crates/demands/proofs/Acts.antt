@@ -37,7 +37,6 @@ use Rattle.decode.specs.declared.MoveOp.{MoveOp}
 use Rattle.decode.specs.declared.MoveOp.TheVariants as move-op
 use Rattle.flow.specs.declared.Act.{Act}
 use Rattle.flow.specs.declared.Act.TheVariants as act
-use Rattle.execute.specs.declared.Command.{Command}
 use Rattle.execute.specs.declared.Command.TheVariants as command
 use Rattle.execute.specs.declared.Executed.{Executed}
 use Rattle.execute.specs.declared.Executed.TheVariants as done

@@ -18,7 +18,6 @@ use Rattle.effect.specs.After.{cpu_after, cp0_after}
 use Rattle.card.specs.declared.Machine.{Machine}
 use Rattle.card.specs.Step.{Out, out, put_reg, apply, step_of}
 use Rattle.demands.specs.StepStops.{effect, readiness, Twice, BranchInSlot, MoveNotBuilt, StepStops}
-use Rattle.demands.specs.StepStops.Holds.{ram}
 use Rattle.demands.specs.StepStops.Twice.{at_fetch, at_load, at_store, at_probe}
 use Rattle.demands.proofs.Checks.{slot_in}
 use Rattle.demands.proofs.Stages as stages

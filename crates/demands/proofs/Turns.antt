@@ -9,7 +9,6 @@ use Rattle.tlb.specs.Range.{tlb_in_range}
 use Rattle.tlb.proofs.StaysInRange.{in_range_each}
 use Rattle.cp0.specs.declared.Cp0.{Cp0}
 use Rattle.cp0.specs.declared.Exception.{Exception}
-use Rattle.cp0.specs.declared.Move.{Move}
 use Rattle.cp0.specs.declared.Move.TheVariants.{Built}
 use Rattle.cp0.specs.Registers.{kept_index}
 use Rattle.cp0.specs.Moves.{check_move}

@@ -12,7 +12,6 @@ use Rattle.card.specs.Machine.{fresh}
 use Rattle.image.specs.declared.Refusal.{Refusal}
 use Rattle.image.specs.declared.Image.{Image}
 use Rattle.image.specs.Refusals.{size, image_refusal}
-use Rattle.image.specs.Acts.{Loaded}
 use Rattle.image.specs.Image.{image, Has, loaded_by, image_of, ram_after}
 
 module _ (text ram : List ℕ) where

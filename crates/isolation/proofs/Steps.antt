@@ -8,7 +8,6 @@ use lib.Dec.{eqb}
 use Rattle.memory.specs.Memory.{rom_base}
 use Rattle.cp0.specs.Status.{CU0}
 use Rattle.card.specs.declared.Machine.{Machine}
-use Rattle.card.specs.Machine.{machine}
 use Rattle.card.specs.Step.{step_of}
 use Rattle.card.specs.Run.{Whole, whole, plus, following, steps}
 use Rattle.isolation.specs.Reach.{SameReached, OnlyDirtyChanged}

@@ -4,7 +4,6 @@ use native.Mathlib.Omega.{arith}
 use mathlib.Core.Path.{◌≡◌, refl, sym, ap, ◌∙◌}
 use mathlib.Core.Bool.{Bool, true}
 use mathlib.Core.Logic.{inl, inr}
-use Rattle.tlb.specs.declared.Half.{Half}
 use Rattle.tlb.specs.Slot.{slot_at, valid_of, dirty_of}
 use Rattle.tlb.specs.Match.{Only, matches_at, hits}
 use Rattle.tlb.specs.Translate.{vaddr, odd_of, half_of, physical, through, through_slot, through_found, mapped}

@@ -11,7 +11,7 @@ use lib.Seq.{get_or-set_same, get_or-set_other}
 use borrow.Author.Tests.{eqb-true, eqb-false, ltb-true, ltb-false}
 use Rattle.promise.specs.Pick.{pick}
 use Rattle.mills.proofs.Writes.{put, hi_here, hi_other, lo_here, lo_other, mask_same, granted_here, granted_other}
-use Rattle.place.specs.Plan.{Plan, room, key, owner, lo_of, granted, find, more, taken, crowded, again, add_at, add}
+use Rattle.place.specs.Plan.{Plan, key, owner, lo_of, granted, find, more, taken, crowded, again, add_at, add}
 
 -- EntryHi of slot i, EntryLo of its half h, and whose page g of RAM is
 abbrev pub hi : Plan → ℕ → ℕ

@@ -1,5 +1,4 @@
 -- The test of the code is the test of the definition.
-use borrow.Author.Rules.{rules}
 use borrow.Author.Tests.{lt-ltb, le-ltb}
 use Rattle.answer.specs.Digits.{character}
 use Rattle.answer.proofs.character.Goals as goal

@@ -1,5 +1,4 @@
 -- A place past the end is the one that `set` leaves alone.
-use borrow.Author.Rules.{rules}
 use mathlib.Core.Path.{sym}
 use lib.Seq.{set_out}
 use Rattle.answer.proofs.put.Goals as goal

@@ -1,13 +1,7 @@
 -- The invariant: what is left to write, written, gives what the whole would.
-use borrow.Author.Rules.{rules}
-use Prim.Native.Nat.{◌+◌, ◌*◌, ◌≤◌}
-use mathlib.Core.Path.{◌≡◌, refl}
+use mathlib.Core.Path.{refl}
 use native.Mathlib.Omega.{arith}
-use lib.ListN.{length}
-use lib.Seq.{sets, length-sets}
-use Rattle.card.specs.Machine.{machine}
-use Rattle.answer.specs.Frames.{line_of, each}
-use Rattle.answer.specs.Wrote.{Left}
+use lib.Seq.{length-sets}
 use Rattle.answer.proofs.Laws.{turn, ended}
 use Rattle.answer.proofs.put_each.Goals as goal
 

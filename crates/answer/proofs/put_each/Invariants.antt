@@ -1,14 +1,11 @@
 -- The invariant: what is left to write, written, gives what the whole would.
-use borrow.Author.Rules.{rules}
 use Prim.Native.Nat.{◌+◌, ◌*◌, ◌≤◌}
-use mathlib.Core.Path.{◌≡◌, refl}
-use native.Mathlib.Omega.{arith}
+use mathlib.Core.Path.{◌≡◌}
 use lib.ListN.{length}
-use lib.Seq.{sets, length-sets}
+use lib.Seq.{sets}
 use Rattle.card.specs.Machine.{machine}
 use Rattle.answer.specs.Frames.{line_of, each}
 use Rattle.answer.specs.Wrote.{Left}
-use Rattle.answer.proofs.Laws.{turn, ended}
 use Rattle.answer.proofs.put_each.Given as goal
 
 abbrev pub invariant-loop-left : goal.invariant-loop-left

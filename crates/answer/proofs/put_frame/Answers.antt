@@ -2,7 +2,6 @@
 use native.Mathlib.Omega.{arith}
 use Rattle.answer.specs.Frames.{frame}
 use Rattle.answer.specs.Wrote.{◌then◌, one}
-use borrow.Author.Rules.{rules}
 use Rattle.answer.proofs.put_frame.Goals as goal
 
 pub returns : goal.returns

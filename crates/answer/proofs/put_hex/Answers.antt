@@ -1,11 +1,8 @@
 -- The invariant: what is left to put, put, gives what the whole would.
 use borrow.Author.Rules.{rules}
-use Prim.Native.Nat.{◌+◌, ◌≤◌}
-use mathlib.Core.Path.{◌≡◌, refl, sym, ◌∙◌}
+use mathlib.Core.Path.{refl, sym, ◌∙◌}
 use native.Mathlib.Omega.{arith}
-use lib.ListN.{length, length-set}
-use lib.Seq.{sets}
-use Rattle.answer.specs.Digits.{hex_of}
+use lib.ListN.{length-set}
 use Rattle.answer.proofs.Laws.{length_hex, digit_lt, sets_hex, sets_hex_none}
 use Rattle.answer.proofs.put_hex.Goals as goal
 

@@ -1,12 +1,9 @@
 -- The invariant: what is left to put, put, gives what the whole would.
-use borrow.Author.Rules.{rules}
 use Prim.Native.Nat.{◌+◌, ◌≤◌}
-use mathlib.Core.Path.{◌≡◌, refl, sym, ◌∙◌}
-use native.Mathlib.Omega.{arith}
-use lib.ListN.{length, length-set}
+use mathlib.Core.Path.{◌≡◌}
+use lib.ListN.{length}
 use lib.Seq.{sets}
 use Rattle.answer.specs.Digits.{hex_of}
-use Rattle.answer.proofs.Laws.{length_hex, digit_lt, sets_hex, sets_hex_none}
 use Rattle.answer.proofs.put_hex.Given as goal
 
 abbrev pub invariant-loop-n : goal.invariant-loop-n

@@ -3,7 +3,6 @@ use native.Mathlib.Omega.{arith}
 use mathlib.Core.Path.{sym, ◌∙◌}
 use Rattle.answer.specs.Frames.{kept_frame}
 use Rattle.answer.specs.Wrote.{nothing}
-use borrow.Author.Rules.{rules}
 use Rattle.answer.proofs.put_kept.Goals as goal
 
 pub returns-then-kept : goal.returns-then-kept

@@ -1,6 +1,5 @@
 -- Each part's line is written by its own function.
 use Rattle.answer.specs.Frames.{line_of}
-use borrow.Author.Rules.{rules}
 use Rattle.answer.proofs.put_line.Goals as goal
 
 pub returns-in-NonZero : goal.returns-in-NonZero

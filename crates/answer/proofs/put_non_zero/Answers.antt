@@ -3,7 +3,6 @@ use native.Mathlib.Omega.{arith}
 use borrow.Author.Tests.{eq-eqb, ne_eqb}
 use Rattle.answer.specs.Frames.{non_zero}
 use Rattle.answer.specs.Wrote.{nothing}
-use borrow.Author.Rules.{rules}
 use Rattle.answer.proofs.put_non_zero.Goals as goal
 
 pub returns-then-value-eq0 : goal.returns-then-value-eq0

@@ -2,7 +2,6 @@
 use native.Mathlib.Omega.{arith}
 use Rattle.answer.specs.Frames.{read_frame}
 use Rattle.answer.specs.Wrote.{nothing}
-use borrow.Author.Rules.{rules}
 use Rattle.answer.proofs.put_read.Goals as goal
 
 pub returns-in_default : goal.returns-in_default

@@ -1,5 +1,4 @@
 -- Each test of the code is a test of the definition.
-use borrow.Author.Rules.{rules}
 use borrow.Author.Tests.{lt-ltb, le-ltb, eq-eqb, ne_eqb}
 use Rattle.answer.specs.Frames.{register}
 use Rattle.answer.proofs.register.Goals as goal

@@ -1,12 +1,8 @@
 -- The invariant: the frames of what is left, from what the frames before them left, leave what all of them leave.
-use Prim.Native.Nat.{◌≤◌, ◌+◌, ◌-◌}
-use mathlib.Core.Path.{◌≡◌, refl, sym, ap, ◌∙◌}
+use mathlib.Core.Path.{refl, sym, ap, ◌∙◌}
 use native.Mathlib.Omega.{arith}
 use borrow.Author.Rules.{rules}
-use lib.ListN.{length, drop}
-use Rattle.frame.specs.Line.{lines_of}
-use Rattle.card.specs.Machine.{machine}
-use Rattle.image.specs.Acts.{Loaded, loaded, acts}
+use Rattle.image.specs.Acts.{acts}
 use Rattle.image.proofs.Turns.{acts_next, did_is, all_acted}
 use Rattle.image.proofs.load.Goals as goal
 

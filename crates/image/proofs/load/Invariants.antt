@@ -1,13 +1,10 @@
 -- The invariant: the frames of what is left, from what the frames before them left, leave what all of them leave.
-use Prim.Native.Nat.{◌≤◌, ◌+◌, ◌-◌}
-use mathlib.Core.Path.{◌≡◌, refl, sym, ap, ◌∙◌}
-use native.Mathlib.Omega.{arith}
-use borrow.Author.Rules.{rules}
+use Prim.Native.Nat.{◌≤◌, ◌-◌}
+use mathlib.Core.Path.{◌≡◌}
 use lib.ListN.{length, drop}
 use Rattle.frame.specs.Line.{lines_of}
 use Rattle.card.specs.Machine.{machine}
-use Rattle.image.specs.Acts.{Loaded, loaded, acts}
-use Rattle.image.proofs.Turns.{acts_next, did_is, all_acted}
+use Rattle.image.specs.Acts.{loaded, acts}
 use Rattle.image.proofs.load.Given as goal
 
 abbrev pub invariant-loop-at : goal.invariant-loop-at

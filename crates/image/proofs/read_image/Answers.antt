@@ -1,7 +1,6 @@
 -- The refusal is known before anything is written.
-use mathlib.Core.Path.{◌≡◌, refl, sym, ap, ◌∙◌}
+use mathlib.Core.Path.{sym, ◌∙◌}
 use Rattle.image.proofs.Reading.{short, refused, accepted, number_is}
-use borrow.Author.Rules.{rules}
 use Rattle.image.proofs.read_image.Goals as goal
 
 pub returns-then-refusal-ne0 : goal.returns-then-refusal-ne0

@@ -3,7 +3,6 @@ use mathlib.Core.Path.{sym, ◌∙◌}
 use Rattle.answer.specs.Texts.{cardrun_text}
 use Rattle.answer.specs.Wrote.{◌then◌}
 use Rattle.answer.proofs.Laws.{no_ram}
-use borrow.Author.Rules.{rules}
 use Rattle.answer.proofs.texts.cardrun_text.Goals as goal
 
 pub returns-then-refused : goal.returns-then-refused

@@ -2,7 +2,6 @@
 use mathlib.Core.Path.{sym, ◌∙◌}
 use Rattle.answer.specs.Texts.{cardstate_text}
 use Rattle.answer.specs.Wrote.{◌then◌}
-use borrow.Author.Rules.{rules}
 use Rattle.answer.proofs.texts.cardstate_text.Goals as goal
 
 pub returns-then-refused : goal.returns-then-refused

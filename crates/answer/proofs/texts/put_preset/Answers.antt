@@ -1,6 +1,5 @@
 -- The frames are written one after the other.
 use native.Mathlib.Omega.{arith}
-use borrow.Author.Rules.{rules}
 use Rattle.answer.specs.Placed.{preset_text}
 use Rattle.answer.specs.Wrote.{◌then◌}
 use Rattle.answer.proofs.texts.put_preset.Goals as goal

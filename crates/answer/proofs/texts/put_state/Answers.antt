@@ -1,7 +1,6 @@
 -- The parts are written one after the other.
 use Rattle.answer.specs.Texts.{state_text}
 use Rattle.answer.specs.Wrote.{◌then◌}
-use borrow.Author.Rules.{rules}
 use Rattle.answer.proofs.texts.put_state.Goals as goal
 
 pub returns : goal.returns

@@ -1,12 +1,8 @@
 -- The invariant: what is left of the text, put, gives what the whole would.
-use borrow.Author.Rules.{rules}
 use Prim.Native.Nat.{◌+◌, ◌-◌, ◌≤◌}
-use mathlib.Core.Path.{◌≡◌, refl, sym, ◌∙◌}
-use native.Mathlib.Omega.{arith}
-use native.Mathlib.Numerals.{unary_clauses}
-use lib.ListN.{length, length-set, drop}
+use mathlib.Core.Path.{◌≡◌}
+use lib.ListN.{length, drop}
 use lib.Seq.{sets}
-use Rattle.answer.proofs.Laws.{sets_more, sets_none}
 use Rattle.answer.proofs.texts.put_text.Given as goal
 
 abbrev pub invariant-loop-i : goal.invariant-loop-i

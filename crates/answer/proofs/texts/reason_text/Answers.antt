@@ -2,7 +2,6 @@
 use native.Mathlib.Omega.{arith}
 use Rattle.answer.specs.Placed.{reason_text}
 use Rattle.answer.specs.Wrote.{◌then◌, one}
-use borrow.Author.Rules.{rules}
 use Rattle.answer.proofs.texts.reason_text.Goals as goal
 
 pub returns : goal.returns

@@ -2,7 +2,6 @@
 use native.Mathlib.Omega.{arith}
 use Rattle.answer.specs.Placed.{word_text}
 use Rattle.answer.specs.Wrote.{◌then◌, one}
-use borrow.Author.Rules.{rules}
 use Rattle.answer.proofs.texts.word_text.Goals as goal
 
 pub returns : goal.returns

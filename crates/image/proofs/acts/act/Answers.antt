@@ -1,7 +1,6 @@
 -- Each frame has its own way out, with what the functions that it calls promise.
-use mathlib.Core.Path.{◌≡◌, refl}
+use mathlib.Core.Path.{refl}
 use Rattle.image.specs.Acts.{act}
-use borrow.Author.Rules.{rules}
 use Rattle.image.proofs.acts.act.Goals as goal
 
 pub returns-in-Register : goal.returns-in-Register

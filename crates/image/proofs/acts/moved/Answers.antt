@@ -1,7 +1,6 @@
 -- The kept bits are quotients and remainders in both.
 use Rattle.image.specs.Acts.{moved}
-use mathlib.Core.Path.{◌≡◌, refl, sym, ap, ◌∙◌}
-use borrow.Author.Rules.{rules}
+use mathlib.Core.Path.{refl}
 use Rattle.image.proofs.acts.moved.Goals as goal
 
 pub returns : goal.returns

@@ -1,7 +1,6 @@
 -- The test is the definition's, and the store is its `set`.
 use borrow.Author.Tests.{le-ltb, lt-ltb}
 use Rattle.image.specs.Acts.{regs_set}
-use borrow.Author.Rules.{rules}
 use Rattle.image.proofs.acts.put_register.Goals as goal
 
 pub returns-then-number-lt-HI : goal.returns-then-number-lt-HI

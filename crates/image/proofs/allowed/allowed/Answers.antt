@@ -1,6 +1,5 @@
 -- Each frame has its own way out, with what the function that it calls promises.
 use Rattle.image.specs.Allowed.{allowed}
-use borrow.Author.Rules.{rules}
 use Rattle.image.proofs.allowed.allowed.Goals as goal
 
 pub returns-in-Register : goal.returns-in-Register

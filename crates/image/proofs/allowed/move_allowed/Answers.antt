@@ -1,8 +1,7 @@
 -- The number is tested first; then the move is built or is not.
 use Rattle.image.specs.Allowed.{move_allowed}
-use mathlib.Core.Path.{◌≡◌, refl, sym, ap, ◌∙◌}
+use mathlib.Core.Path.{sym, ◌∙◌}
 use borrow.Author.Tests.{not-true, not-false}
-use borrow.Author.Rules.{rules}
 use Rattle.image.proofs.allowed.move_allowed.Goals as goal
 
 pub returns-then-not-kept : goal.returns-then-not-kept

@@ -1,7 +1,6 @@
 -- The tests on the way are the definition's.
 use Rattle.image.specs.Allowed.{slot_allowed}
 use borrow.Author.Tests.{le-leb, lt-leb}
-use borrow.Author.Rules.{rules}
 use Rattle.image.proofs.allowed.slot_allowed.Goals as goal
 
 pub returns-then-index-gt47 : goal.returns-then-index-gt47

@@ -1,13 +1,10 @@
 -- The invariant: the first refusal of what is left, at its line number, is that of the whole text.
 use Prim.Native.Nat.{◌≤◌, ◌+◌, ◌-◌}
-use mathlib.Core.Path.{◌≡◌, refl, sym, ap, ◌∙◌}
+use mathlib.Core.Path.{◌≡◌}
 use mathlib.Core.Bool.{false}
-use native.Mathlib.Omega.{arith}
-use borrow.Author.Rules.{rules}
 use lib.ListN.{length, drop}
 use Rattle.frame.specs.Line.{lines_of}
 use Rattle.image.specs.Refusals.{first_of}
-use Rattle.image.proofs.Turns.{first_unended, first_refused, first_next, first_done}
 use Rattle.image.proofs.refusals.first_of.Given as goal
 
 abbrev pub invariant-loop-at : goal.invariant-loop-at

@@ -1,7 +1,6 @@
 -- The two lengths are tested in the definition's order, before any line.
 use Rattle.image.specs.Refusals.{image_refusal}
 use borrow.Author.Tests.{eq-eqb, ne_eqb, lt-leb, le-leb}
-use borrow.Author.Rules.{rules}
 use Rattle.image.proofs.refusals.image_refusal.Goals as goal
 
 pub returns-then-ram-ne-SIZE : goal.returns-then-ram-ne-SIZE

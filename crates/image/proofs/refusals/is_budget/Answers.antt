@@ -1,6 +1,5 @@
 -- Each frame has its own way out.
 use Rattle.image.specs.Refusals.{is_budget}
-use borrow.Author.Rules.{rules}
 use Rattle.image.proofs.refusals.is_budget.Goals as goal
 
 pub returns-in-Register : goal.returns-in-Register

@@ -1,8 +1,7 @@
 -- The three tests stand in the definition's order.
 use Rattle.image.specs.Refusals.{refusal_of}
-use mathlib.Core.Path.{◌≡◌, refl, sym, ap, ◌∙◌}
+use mathlib.Core.Path.{sym, ◌∙◌}
 use borrow.Author.Tests.{not-true, not-false}
-use borrow.Author.Rules.{rules}
 use Rattle.image.proofs.refusals.refusal_of.Goals as goal
 
 pub returns-then-not-is_frame : goal.returns-then-not-is_frame

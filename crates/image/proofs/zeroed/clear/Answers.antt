@@ -1,11 +1,10 @@
 -- The invariant: zeros as far as the loop has come, and what was there after it.
-use Prim.Native.Nat.{ℕ, ◌≤◌, ◌<◌, ◌-◌}
-use mathlib.Core.Path.{◌≡◌, refl, sym, ap, ◌∙◌, subst}
+use Prim.Native.Nat.{ℕ, ◌≤◌, ◌<◌}
+use mathlib.Core.Path.{◌≡◌, refl, ap, ◌∙◌}
 use mathlib.Core.List.{List, ◌++◌, append-nil}
 use native.Mathlib.Omega.{arith}
 use borrow.Author.Fill.{fill_none, fill_more}
-use borrow.Author.Rules.{rules}
-use lib.ListN.{length, set, drop, replicate, length-set, drop_of_length-le}
+use lib.ListN.{length, set, replicate, length-set, drop_of_length-le}
 use Rattle.image.proofs.zeroed.clear.Goals as goal
 
 pub loop-i-init : goal.loop-i-init

@@ -1,5 +1,4 @@
 -- Past the last there is none.
-use borrow.Author.Rules.{rules}
 use mathlib.Core.Path.{refl, sym}
 use lib.ListN.{get_or-eq_default}
 use Rattle.place.specs.Files.{end}

@@ -1,5 +1,4 @@
 -- A file whose ends are not in order or past the slice is empty.
-use borrow.Author.Rules.{rules}
 use Rattle.place.proofs.Lists.{file_back, file_past, file_is}
 use Rattle.place.proofs.files.file_at.Goals as goal
 

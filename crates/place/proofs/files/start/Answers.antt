@@ -1,5 +1,4 @@
 -- The first begins at 0, and each other where the one before it ends.
-use borrow.Author.Rules.{rules}
 use mathlib.Core.Path.{sym, ap, ◌∙◌}
 use Rattle.place.specs.Files.{start}
 use Rattle.place.proofs.Lists.{start_next}

@@ -1,5 +1,4 @@
 -- By the test of bit 31.
-use borrow.Author.Rules.{rules}
 use borrow.Author.Tests.{lt-ltb, le-ltb}
 use Rattle.place.specs.Made.{extended}
 use Rattle.place.proofs.making.extended.Goals as goal

@@ -1,5 +1,4 @@
 -- The reader's refusal, or what it made is compared.
-use borrow.Author.Rules.{rules}
 use mathlib.Core.Path.{◌∙◌}
 use Rattle.place.proofs.Texts.{kept, lost, unread, read_alone, read_all}
 use Rattle.place.proofs.making.late.Goals as goal

@@ -1,5 +1,4 @@
 -- The kernel's entry where it is alone, else that of program 1.
-use borrow.Author.Rules.{rules}
 use mathlib.Core.Path.{ap, ◌∙◌}
 use Rattle.elf.specs.Header.{entry}
 use Rattle.place.specs.Made.{extended}

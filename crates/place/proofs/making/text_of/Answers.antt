@@ -1,10 +1,6 @@
 -- A text that is too long, or what the reader makes of it.
-use borrow.Author.Rules.{rules}
-use native.Mathlib.Omega.{arith}
-use mathlib.Core.Path.{sym}
 use Rattle.place.proofs.Texts.{not_is, too_long, text_is}
 use lib.Dec.{eqb}
-use lib.Seq.{length-take-le}
 use Rattle.place.proofs.making.text_of.Goals as goal
 
 pub returns-then-end-gt65536 : goal.returns-then-end-gt65536

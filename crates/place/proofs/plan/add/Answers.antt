@@ -1,5 +1,4 @@
 -- The slot is found; then it has the page, or RAM is full, or the next page is taken.
-use borrow.Author.Rules.{rules}
 use mathlib.Core.Path.{◌∙◌}
 use Rattle.place.proofs.Pages.{add_again, add_crowded, add_taken}
 use Rattle.place.proofs.plan.add.Goals as goal

@@ -1,5 +1,4 @@
 -- The segments' pages, and then the stack's.
-use borrow.Author.Rules.{rules}
 use mathlib.Core.Path.{◌∙◌}
 use Rattle.place.proofs.Texts.{program_is}
 use Rattle.place.proofs.plan.add_program.Goals as goal

@@ -1,11 +1,6 @@
 -- The invariant: the programs left, added to what is planned, give what all give.
-use borrow.Author.Rules.{rules}
 use native.Mathlib.Omega.{arith}
-use mathlib.Core.Path.{◌≡◌, refl, sym, ◌∙◌}
-use Prim.Native.Nat.{◌+◌}
-use Rattle.place.specs.Fits.{Fits}
-use Rattle.place.specs.Files.{file_at}
-use Rattle.place.specs.Plan.{plan, add_programs}
+use mathlib.Core.Path.{refl, sym, ◌∙◌}
 use Rattle.place.proofs.Turns.{programs_next, programs_done}
 use Rattle.place.proofs.plan.add_programs.Goals as goal
 

@@ -1,12 +1,9 @@
 -- The invariant: the programs left, added to what is planned, give what all give.
-use borrow.Author.Rules.{rules}
-use native.Mathlib.Omega.{arith}
-use mathlib.Core.Path.{◌≡◌, refl, sym, ◌∙◌}
+use mathlib.Core.Path.{◌≡◌}
 use Prim.Native.Nat.{◌+◌}
 use Rattle.place.specs.Fits.{Fits}
 use Rattle.place.specs.Files.{file_at}
 use Rattle.place.specs.Plan.{plan, add_programs}
-use Rattle.place.proofs.Turns.{programs_next, programs_done}
 use Rattle.place.proofs.plan.add_programs.Given as goal
 
 abbrev pub invariant-loop-left : goal.invariant-loop-left

@@ -1,10 +1,6 @@
 -- The invariant: the pages left, added to what is planned, give what all give.
-use borrow.Author.Rules.{rules}
 use native.Mathlib.Omega.{arith}
-use mathlib.Core.Path.{◌≡◌, refl, sym, ◌∙◌}
-use Prim.Native.Nat.{◌+◌}
-use Rattle.place.specs.Fits.{Fits}
-use Rattle.place.specs.Plan.{plan, add_run}
+use mathlib.Core.Path.{refl, sym, ◌∙◌}
 use Rattle.place.proofs.Turns.{run_next, run_done}
 use Rattle.place.proofs.plan.add_run.Goals as goal
 

@@ -1,11 +1,8 @@
 -- The invariant: the pages left, added to what is planned, give what all give.
-use borrow.Author.Rules.{rules}
-use native.Mathlib.Omega.{arith}
-use mathlib.Core.Path.{◌≡◌, refl, sym, ◌∙◌}
+use mathlib.Core.Path.{◌≡◌}
 use Prim.Native.Nat.{◌+◌}
 use Rattle.place.specs.Fits.{Fits}
 use Rattle.place.specs.Plan.{plan, add_run}
-use Rattle.place.proofs.Turns.{run_next, run_done}
 use Rattle.place.proofs.plan.add_run.Given as goal
 
 abbrev pub invariant-loop-left : goal.invariant-loop-left

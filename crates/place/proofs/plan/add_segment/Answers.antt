@@ -1,5 +1,4 @@
 -- The pages of the header, one after the other.
-use borrow.Author.Rules.{rules}
 use mathlib.Core.Path.{◌∙◌}
 use Rattle.place.proofs.Texts.{segment_is}
 use Rattle.place.proofs.plan.add_segment.Goals as goal

@@ -1,10 +1,6 @@
 -- The invariant: the headers left, added to what is planned, give what all give.
-use borrow.Author.Rules.{rules}
 use native.Mathlib.Omega.{arith}
-use mathlib.Core.Path.{◌≡◌, sym, ◌∙◌}
-use Prim.Native.Nat.{◌+◌, ◌<◌}
-use Rattle.place.specs.Fits.{Fits}
-use Rattle.place.specs.Plan.{plan, add_segments, add_all}
+use mathlib.Core.Path.{sym, ◌∙◌}
 use Rattle.place.proofs.Texts.{all_segments}
 use Rattle.place.proofs.Turns.{segments_next, segments_done}
 use Rattle.place.proofs.plan.add_segments.Goals as goal

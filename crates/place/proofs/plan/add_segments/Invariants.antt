@@ -1,12 +1,8 @@
 -- The invariant: the headers left, added to what is planned, give what all give.
-use borrow.Author.Rules.{rules}
-use native.Mathlib.Omega.{arith}
-use mathlib.Core.Path.{◌≡◌, sym, ◌∙◌}
+use mathlib.Core.Path.{◌≡◌}
 use Prim.Native.Nat.{◌+◌, ◌<◌}
 use Rattle.place.specs.Fits.{Fits}
 use Rattle.place.specs.Plan.{plan, add_segments, add_all}
-use Rattle.place.proofs.Texts.{all_segments}
-use Rattle.place.proofs.Turns.{segments_next, segments_done}
 use Rattle.place.proofs.plan.add_segments.Given as goal
 
 abbrev pub invariant-loop-left : goal.invariant-loop-left

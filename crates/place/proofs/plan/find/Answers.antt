@@ -1,9 +1,6 @@
 -- The invariant: of the slots left, the first is that of all.
-use borrow.Author.Rules.{rules}
 use native.Mathlib.Omega.{arith}
-use mathlib.Core.Path.{◌≡◌, refl, sym, ◌∙◌}
-use Prim.Native.Nat.{◌+◌}
-use Rattle.place.specs.Plan.{find}
+use mathlib.Core.Path.{refl, sym, ◌∙◌}
 use Rattle.place.proofs.Turns.{find_here, find_next, find_none}
 use Rattle.place.proofs.plan.find.Goals as goal
 

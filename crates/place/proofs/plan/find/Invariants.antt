@@ -1,10 +1,7 @@
 -- The invariant: of the slots left, the first is that of all.
-use borrow.Author.Rules.{rules}
-use native.Mathlib.Omega.{arith}
-use mathlib.Core.Path.{◌≡◌, refl, sym, ◌∙◌}
+use mathlib.Core.Path.{◌≡◌}
 use Prim.Native.Nat.{◌+◌}
 use Rattle.place.specs.Plan.{find}
-use Rattle.place.proofs.Turns.{find_here, find_next, find_none}
 use Rattle.place.proofs.plan.find.Given as goal
 
 abbrev pub invariant-loop-left : goal.invariant-loop-left

@@ -1,6 +1,5 @@
 -- D is set if the page is writable.
 use Rattle.place.specs.Plan.{granted}
-use borrow.Author.Rules.{rules}
 use Rattle.place.proofs.plan.granted.Goals as goal
 
 pub returns-then-writable : goal.returns-then-writable

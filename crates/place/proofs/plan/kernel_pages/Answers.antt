@@ -1,9 +1,6 @@
 -- The invariant: the top of the headers left and of those passed is that of all.
-use borrow.Author.Rules.{rules}
 use native.Mathlib.Omega.{arith}
-use mathlib.Core.Path.{◌≡◌, sym, ◌∙◌}
-use Prim.Native.Nat.{◌+◌, ◌<◌}
-use Rattle.place.specs.Plan.{top_from, kernel_pages}
+use mathlib.Core.Path.{sym, ◌∙◌}
 use Rattle.place.proofs.Texts.{all_tops}
 use Rattle.place.proofs.Turns.{top_next, top_done}
 use Rattle.place.proofs.plan.kernel_pages.Goals as goal

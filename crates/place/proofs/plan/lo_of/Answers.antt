@@ -1,6 +1,5 @@
 -- D is set if the page is writable.
 use Rattle.place.specs.Plan.{lo_of}
-use borrow.Author.Rules.{rules}
 use Rattle.place.proofs.plan.lo_of.Goals as goal
 
 pub returns-then-writable : goal.returns-then-writable

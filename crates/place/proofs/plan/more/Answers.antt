@@ -1,7 +1,6 @@
 -- By the test of the slot.
 use Rattle.place.specs.Plan.{more}
 use borrow.Author.Tests.{eq-eqb, ne_eqb}
-use borrow.Author.Rules.{rules}
 use Rattle.place.proofs.plan.more.Goals as goal
 
 pub returns-then-i-used : goal.returns-then-i-used

@@ -1,5 +1,4 @@
 -- The page is the next one, its pair's slot slot i.
-use borrow.Author.Rules.{rules}
 use native.Mathlib.Omega.{arith}
 use Rattle.place.proofs.Pages.{more_least, taken_is}
 use Rattle.place.proofs.plan.take.Goals as goal

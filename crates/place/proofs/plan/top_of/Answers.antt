@@ -1,5 +1,4 @@
 -- Where there are pages, they end after the last.
-use borrow.Author.Rules.{rules}
 use native.Mathlib.Omega.{arith}
 use Rattle.place.proofs.Texts.{top_none, top_some}
 use Rattle.place.proofs.plan.top_of.Goals as goal

@@ -1,5 +1,4 @@
 -- By whose the page is.
-use borrow.Author.Rules.{rules}
 use borrow.Author.Tests.{lt-ltb, le-ltb}
 use Rattle.place.specs.Ram.{byte_at}
 use Rattle.place.proofs.ram.byte_at.Goals as goal

@@ -1,12 +1,7 @@
 -- The invariant: what is filled, and then what is left to fill, is all.
-use borrow.Author.Rules.{rules}
 use native.Mathlib.Omega.{arith}
-use mathlib.Core.Path.{◌≡◌, refl, sym, ◌∙◌}
-use Prim.Native.Nat.{◌≤◌, ◌-◌}
-use mathlib.Core.List.{◌++◌}
-use lib.ListN.{length, take, length-set}
-use Rattle.place.specs.Files.{file_at}
-use Rattle.place.specs.Ram.{bytes_from}
+use mathlib.Core.Path.{refl, sym, ◌∙◌}
+use lib.ListN.{length-set}
 use Rattle.place.proofs.Turns.{fill_none, fill_next, fill_done}
 use Rattle.place.proofs.ram.fill.Goals as goal
 

@@ -1,13 +1,10 @@
 -- The invariant: what is filled, and then what is left to fill, is all.
-use borrow.Author.Rules.{rules}
-use native.Mathlib.Omega.{arith}
-use mathlib.Core.Path.{◌≡◌, refl, sym, ◌∙◌}
+use mathlib.Core.Path.{◌≡◌}
 use Prim.Native.Nat.{◌≤◌, ◌-◌}
 use mathlib.Core.List.{◌++◌}
-use lib.ListN.{length, take, length-set}
+use lib.ListN.{length, take}
 use Rattle.place.specs.Files.{file_at}
 use Rattle.place.specs.Ram.{bytes_from}
-use Rattle.place.proofs.Turns.{fill_none, fill_next, fill_done}
 use Rattle.place.proofs.ram.fill.Given as goal
 
 abbrev pub invariant-loop-p : goal.invariant-loop-p

@@ -1,5 +1,4 @@
 -- Of nobody's page it is 0.
-use borrow.Author.Rules.{rules}
 use borrow.Author.Tests.{eq-eqb, ne_eqb}
 use Rattle.place.specs.Ram.{owned_byte}
 use Rattle.place.proofs.ram.owned_byte.Goals as goal

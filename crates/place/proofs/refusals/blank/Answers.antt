@@ -1,5 +1,4 @@
 -- Each byte in its order.
-use borrow.Author.Rules.{rules}
 use mathlib.Core.Path.{sym}
 use Rattle.place.proofs.Texts.{blank_last}
 use borrow.Author.Tests.{eq-eqb, ne_eqb}

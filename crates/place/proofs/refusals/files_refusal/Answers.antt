@@ -1,5 +1,4 @@
 -- Each refusal in its order.
-use borrow.Author.Rules.{rules}
 use Rattle.place.proofs.Texts.{by_kernel, by_programs, by_vectors}
 use Rattle.place.proofs.refusals.files_refusal.Goals as goal
 

@@ -1,5 +1,4 @@
 -- Alone, it is a program.
-use borrow.Author.Rules.{rules}
 use borrow.Author.Tests.{eq-eqb, ne_eqb}
 use Rattle.place.specs.Made.{kernel_fault}
 use Rattle.place.proofs.refusals.kernel_fault.Goals as goal

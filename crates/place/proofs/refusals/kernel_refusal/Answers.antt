@@ -1,5 +1,4 @@
 -- The kernel is file 0.
-use borrow.Author.Rules.{rules}
 use mathlib.Core.Path.{ap, ◌∙◌}
 use Rattle.place.specs.Made.{of_file, kernel_refusal}
 use Rattle.place.proofs.refusals.kernel_refusal.Goals as goal

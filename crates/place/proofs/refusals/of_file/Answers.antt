@@ -1,6 +1,5 @@
 -- By the fault's number.
 use borrow.Author.Tests.{eq-eqb, ne_eqb}
-use borrow.Author.Rules.{rules}
 use Rattle.place.proofs.refusals.of_file.Goals as goal
 
 pub returns-then-f-eq0 : goal.returns-then-f-eq0

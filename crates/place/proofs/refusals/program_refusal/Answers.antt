@@ -1,5 +1,4 @@
 -- Its fault as a User program.
-use borrow.Author.Rules.{rules}
 use mathlib.Core.Path.{ap, ◌∙◌}
 use Rattle.elf.specs.declared.Space.TheVariants.{User}
 use Rattle.elf.specs.Faults.{program_fault}

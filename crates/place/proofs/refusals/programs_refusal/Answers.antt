@@ -1,10 +1,6 @@
 -- The invariant: the first fault of the programs left is that of all.
-use borrow.Author.Rules.{rules}
 use native.Mathlib.Omega.{arith}
-use mathlib.Core.Path.{◌≡◌, refl, sym, ◌∙◌}
-use Prim.Native.Nat.{◌+◌}
-use Rattle.place.specs.Files.{file_at}
-use Rattle.place.specs.Made.{programs_refusal}
+use mathlib.Core.Path.{refl, sym, ◌∙◌}
 use Rattle.place.proofs.Turns.{refused_here, refused_next, refused_none}
 use Rattle.place.proofs.refusals.programs_refusal.Goals as goal
 

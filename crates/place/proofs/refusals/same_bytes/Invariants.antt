@@ -1,11 +1,8 @@
 -- The invariant: what is left is the same if all is.
-use borrow.Author.Rules.{rules}
-use native.Mathlib.Omega.{arith}
-use mathlib.Core.Path.{◌≡◌, refl, sym, ◌∙◌}
+use mathlib.Core.Path.{◌≡◌}
 use Prim.Native.Nat.{◌≤◌, ◌-◌}
 use lib.ListN.{length, drop}
 use Rattle.place.specs.Made.{same}
-use Rattle.place.proofs.Lists.{same_lengths, same_here, same_next, same_done}
 use Rattle.place.proofs.refusals.same_bytes.Given as goal
 
 abbrev pub invariant-loop-i : goal.invariant-loop-i

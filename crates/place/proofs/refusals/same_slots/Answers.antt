@@ -1,10 +1,6 @@
 -- The invariant: what is left is the same if all is.
-use borrow.Author.Rules.{rules}
 use native.Mathlib.Omega.{arith}
-use mathlib.Core.Path.{◌≡◌, refl, sym, ◌∙◌}
-use Prim.Native.Nat.{◌≤◌, ◌-◌}
-use lib.ListN.{length, drop}
-use Rattle.place.specs.Made.{same}
+use mathlib.Core.Path.{refl, sym, ◌∙◌}
 use Rattle.place.proofs.Lists.{same_lengths, same_here, same_next, same_done}
 use Rattle.place.proofs.refusals.same_slots.Goals as goal
 

@@ -1,5 +1,4 @@
 -- Each test in its order.
-use borrow.Author.Rules.{rules}
 use mathlib.Core.Path.{sym, ◌∙◌}
 use borrow.Author.Tests.{not-true, not-false}
 use Rattle.place.specs.Made.{undone}

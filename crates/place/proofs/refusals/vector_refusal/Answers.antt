@@ -1,5 +1,4 @@
 -- With programs, each vector in its order.
-use borrow.Author.Rules.{rules}
 use mathlib.Core.Path.{sym, ◌∙◌}
 use borrow.Author.Tests.{eq-eqb, ne_eqb}
 use Rattle.place.specs.Made.{vector_refusal}

@@ -11,7 +11,7 @@ import glob
 import re
 import sys
 
-DECLARED = re.compile(r"^( *)((?:unfoldable |abbrev |pub |private )*)(record |data |ruleset |module )?([^\s(){}.;,@\"«»]+)((?: [^\s:]\S*)*) : (.*)$")
+DECLARED = re.compile(r"^( *)((?:unfoldable |abbrev |pub |private )*)(record |data |ruleset |module )?([^\s(){}.;,@\"«»]+)((?: [^\s:]\S*)*) :(?: (.*))?$")
 WORD = re.compile(r'[^\s(){}.;,@"«»`|]+')
 USE = re.compile(r"\buse ([^\s;{]+?)(?:\.?\{([^}]*)\})?(?: as (\S+?))?;?[ \t]*$", re.M)
 CHECK = "--check" in sys.argv
@@ -26,7 +26,12 @@ APART = {
     "tlb": {"hi-in-range": "hi_in_range_lem", "lo-in-range": "lo_in_range_lem"},
     "word": {"below-zero": "below_zero_lem", "less-signed": "less_signed_lem"},
 }
-BESIDE = {"cp0/proofs/KeepsMoves.antt": "move_in", "demands/proofs/Fields.antt": "slot_read", "word/specs/": "by_zero", "word/proofs/": "by_zero"}
+BESIDE = {
+    "cp0/proofs/KeepsMoves.antt": ("move_in", "moveIn"),
+    "demands/proofs/Fields.antt": ("slot_read", "slotRead"),
+    "word/specs/": ("by_zero", "byZero"),
+    "word/proofs/": ("by_zero", "byZero"),
+}
 BESIDE_NAMES = {("word", "by-zero"): "by_zero_lem"}
 
 
@@ -49,10 +54,12 @@ table, fields, where = {}, set(), collections.defaultdict(set)
 for path in texts():
     for line in read(path).splitlines():
         m = DECLARED.match(line)
-        if not m or m[3] and m[3].strip() in ("module", "record", "data") or m[6].startswith("tie."):
+        if not m or m[3] and m[3].strip() in ("module", "record", "data") or (m[6] or "").startswith(("tie.", "goal.")):
+            continue
+        if re.search(r"[=λ]|\blet\b", m[5]):
             continue
         for name in [m[4]] + [w for w in m[5].split() if re.fullmatch(r"[a-z][\w'?₀-₉-]*", w)]:
-            if not name[0].islower() or name in ("let", "in", "λ", "use", "as"):
+            if not name[0].islower() or name in ("let", "in", "λ", "use", "as") or path.endswith(("Answers.antt", "Invariants.antt")) and f"goal.{name}" in read(path):
                 continue
             where[name].add(path)
             if snake(name) != name:
@@ -85,9 +92,9 @@ def turn(text, proof=False, spans=False, crate="", page=False):
             return word
         if at and text[at - 1] == ".":
             chain = re.search(r"[^\s(){};,@\"«»`]*$", text[:at])[0].split(".")
-            if own(".".join(chain)) or alias.get(chain[0]):
+            if chain[0] != "goal" and (own(".".join(chain)) or alias.get(chain[0])):
                 return table[word]
-            if word not in fields or proof and chain[0] in ("c", "tie", "l") or chain[0] in alias:
+            if word not in fields or chain[0] == "goal" or proof and chain[0] in ("c", "tie", "l") or chain[0] in alias:
                 return word
         return table[word]
 
@@ -102,10 +109,10 @@ for path in texts() + sorted(glob.glob("crates/*/src/**/*.rt", recursive=True) +
         continue
     old = read(path)
     new = old
-    for place, word in BESIDE.items():
-        if path.startswith("crates/" + place) and path.endswith(".antt"):
+    for place, (word, theirs) in BESIDE.items():
+        if theirs in table and path.startswith("crates/" + place) and path.endswith(".antt"):
             new = re.sub(rf"(?<![\w.'?-]){word}(?![\w'?-])", word + "_lem", new)
-    new = turn(new, proof=path.endswith("Proof.antt"), spans=path.endswith(".md"), crate=path.split("/")[1] if path.startswith("crates/") else "")
+    new = turn(new, proof=path.endswith(("Proof.antt", "Answers.antt", "Invariants.antt")), spans=path.endswith(".md"), crate=path.split("/")[1] if path.startswith("crates/") else "")
     if CHECK and path.endswith((".antt", ".rt")):
         words = set(WORD.findall(old))
         for word in sorted(words & set(table)):

@@ -66,7 +66,7 @@ pub record Cards : Type 0 where
   pub card_1 : (rd : ℕ) → arithmetic ADDU 0x7fffffff 1 rd ≡ Write rd 0xffffffff80000000
   -- 2. ADD of these: Ov, rd kept, as is every register (B3)
   pub card_2 : (rd : ℕ) → arithmetic ADD 0x7fffffff 1 rd ≡ Raise Ov
-  pub card-2-kept :
+  pub card_2_kept :
       (cpu : Cpu) (cp : Cp0) (regs tlb : List ℕ) (look : PAddr → Eight) (value rd : ℕ)
       → registers_after regs (asked cpu cp tlb look value (arithmetic ADD 0x7fffffff 1 rd)) ≡ regs
   -- 3. DMULTU of two ffffffffffffffff: HI fffffffffffffffe, LO 1 (B4)
@@ -86,10 +86,10 @@ pub record Cards : Type 0 where
   pub card_9 : legal_mask 0x00006000 ≡ true
   pub card_9_not : legal_mask 0x00002000 ≡ false
   -- 10. with ASID 1, 00400123 goes to 2123; 00401000 is invalid (B11)
-  pub card-10 :
+  pub card_10 :
       (mode : Mode) (tlb : List ℕ) (i align : ℕ)
       → Granted mode tlb i align (vaddr 0x00400123) → translate mode 1 (written tlb i) align (vaddr 0x00400123) ≡ Mapped (paddr 0x2123) (half_of i 0 0x86)
-  pub card-10-invalid :
+  pub card_10_invalid :
       (mode : Mode) (tlb : List ℕ) (i align : ℕ) → Granted mode tlb i align (vaddr 0x00401000) → translate mode 1 (written tlb i) align (vaddr 0x00401000) ≡ Invalid (half_of i 1 0)
   -- what they take for granted holds of the fresh machine's TLB, whichever slot is written
   pub card_10_fresh : (i : ℕ) → i < 48 → Granted User fresh.tlb i 1 (vaddr 0x00400123) × Granted User fresh.tlb i 1 (vaddr 0x00401000)

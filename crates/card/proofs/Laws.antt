@@ -27,12 +27,12 @@ cored c z n = record { cpu = c; cp0 = z; stop = n }
 
 -- what `core` computed and wrote is the outcome
 module _ (cpu : Cpu) (cp0 : Cp0) (regs tlb ram rom : List ℕ) (lines : ℕ) (e : Effect) (E : e ≡ effect_of cpu cp0 regs tlb (read ram rom) lines) where
-  pub core-did :
+  pub core_did :
       (cpu' : Cpu) (cp0' : Cp0) (regs' tlb' ram' : List ℕ) → cpu' ≡ cpu_after cpu cp0 e.turn → cp0' ≡ cp0_after cpu.pc cpu.slot cp0 e.turn
       → regs' ≡ put_reg regs e.reg e.value → tlb' ≡ put_slot tlb e.slot → ram' ≡ put_bytes ram e.store
       → Did (step_of (machine cpu cp0 regs tlb) ram rom lines) (cored cpu' cp0' e.stop) regs' tlb' ram'
   unfolding step_of apply
-  core-did cpu' cp0' regs' tlb' ram' p z a b c =
+  core_did cpu' cp0' regs' tlb' ram' p z a b c =
       rw (← E, p, z, a, b, c) (record { machine = refl; stop = refl; memory = refl })
 
 -- ---- refusals

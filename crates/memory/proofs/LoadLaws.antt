@@ -79,8 +79,8 @@ module _ (ram rom : List ℕ) (p : PAddr) (size value : ℕ) (t : lands ram p si
           ∙ ap (byte value) f
 
   -- after a store that lands at an aligned place, that place is read from RAM and holds the value's low `size` bytes
-  pub load-after-store :
+  pub load_after_store :
       p.0 % 8 / size * size ≡ p.0 % 8
       → (n : ℕ) × (read (put_bytes ram (Write p size value)) rom p ≡ Ram n) × (field size n p ≡ value % 2 ^ (8 * size))
   unfolding after
-  load-after-store e = (eight_of (part after rom p), sym (read_ram after rom p there), ap (span size (eight_of (part after rom p))) e ∙ span_after)
+  load_after_store e = (eight_of (part after rom p), sym (read_ram after rom p there), ap (span size (eight_of (part after rom p))) e ∙ span_after)

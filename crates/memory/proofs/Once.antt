@@ -50,14 +50,14 @@ use Rattle.memory.proofs.stores.sdr.Reads as sdr-reads
 use Rattle.memory.proofs.stores.put_bytes.Kinds as put-bytes-kinds
 use Rattle.memory.proofs.stores.put_bytes.Reads as put-bytes-reads
 
-pub part-once :
+pub part_once :
     (κs : Lfts 1) (a : Dens κs part-kinds.ps)
     → part-reads.Pre κs a
     → (z₁ z₂ : (res_t part-kinds.r κs).Denot) (ws₁ ws₂ : Lasts (ended_of 1 part-kinds.ps part-kinds.r) κs a)
     → part-reads.Post κs a z₁ (at_exit (ended_of 1 part-kinds.ps part-kinds.r) κs a ws₁)
     → part-reads.Post κs a z₂ (at_exit (ended_of 1 part-kinds.ps part-kinds.r) κs a ws₂)
     → (z₁.ref_ptr ≡ z₂.ref_ptr) × (z₁.now ≡ z₂.now) × (ws₁ ≡ ws₂)
-part-once κs a p z₁ z₂ ws₁ ws₂ h₁ h₂ = (same h₁.1 h₂.1, same h₁.0 h₂.0, refl)
+part_once κs a p z₁ z₂ ws₁ ws₂ h₁ h₂ = (same h₁.1 h₂.1, same h₁.0 h₂.0, refl)
 
 pub read_once : Unique read-kinds.ps read-kinds.r read-reads.Pre read-reads.Post
 read_once κs a p z₁ z₂ ws₁ ws₂ h₁ h₂ = (same h₁ h₂, refl)

@@ -29,7 +29,7 @@ loads load = each (λ (p : PAddr). load memory p register)
 abbrev stores : (PAddr → ℕ → Store) → List ℕ
 stores store = each (λ (p : PAddr). eight_of (put_bytes (bytes_of 8 memory) (store p register)))
 
-pub lwl-table :
+pub lwl_table :
     loads lwl
     ≡ 0x494a4b4c
     ∷ 0x4a4b4c48
@@ -41,9 +41,9 @@ pub lwl-table :
     ∷ 0x50464748
     ∷ []
 unfolding lwl with_bytes span extend
-lwl-table = refl
+lwl_table = refl
 
-pub lwr-table :
+pub lwr_table :
     loads lwr
     ≡ 0x4142434445464749
     ∷ 0x414243444546494a
@@ -55,9 +55,9 @@ pub lwr-table :
     ∷ 0x4d4e4f50
     ∷ []
 unfolding lwr with_bytes span extend
-lwr-table = refl
+lwr_table = refl
 
-pub ldl-table :
+pub ldl_table :
     loads ldl
     ≡ 0x494a4b4c4d4e4f50
     ∷ 0x4a4b4c4d4e4f5048
@@ -69,9 +69,9 @@ pub ldl-table :
     ∷ 0x5042434445464748
     ∷ []
 unfolding ldl with_bytes span extend
-ldl-table = refl
+ldl_table = refl
 
-pub ldr-table :
+pub ldr_table :
     loads ldr
     ≡ 0x4142434445464749
     ∷ 0x414243444546494a
@@ -83,13 +83,13 @@ pub ldr-table :
     ∷ 0x494a4b4c4d4e4f50
     ∷ []
 unfolding ldr with_bytes span extend
-ldr-table = refl
+ldr_table = refl
 
 -- words below zero: LWL extends every sign, LWR that of a whole word alone
 abbrev signed : (ℕ → PAddr → ℕ → ℕ) → List ℕ
 signed load = each (λ (p : PAddr). load 0xf1f2f3f4f5f6f7f8 p register)
 
-pub lwl-signs :
+pub lwl_signs :
     signed lwl
     ≡ 0xfffffffff1f2f3f4
     ∷ 0xfffffffff2f3f448
@@ -101,9 +101,9 @@ pub lwl-signs :
     ∷ 0xfffffffff8464748
     ∷ []
 unfolding lwl with_bytes span extend
-lwl-signs = refl
+lwl_signs = refl
 
-pub lwr-signs :
+pub lwr_signs :
     signed lwr
     ≡ 0x41424344454647f1
     ∷ 0x414243444546f1f2
@@ -115,9 +115,9 @@ pub lwr-signs :
     ∷ 0xfffffffff5f6f7f8
     ∷ []
 unfolding lwr with_bytes span extend
-lwr-signs = refl
+lwr_signs = refl
 
-pub swl-table :
+pub swl_table :
     stores swl
     ≡ 0x454647484d4e4f50
     ∷ 0x494546474d4e4f50
@@ -129,9 +129,9 @@ pub swl-table :
     ∷ 0x494a4b4c4d4e4f45
     ∷ []
 unfolding byte bytes_of eight_of put_bytes
-swl-table = refl
+swl_table = refl
 
-pub swr-table :
+pub swr_table :
     stores swr
     ≡ 0x484a4b4c4d4e4f50
     ∷ 0x47484b4c4d4e4f50
@@ -143,9 +143,9 @@ pub swr-table :
     ∷ 0x494a4b4c45464748
     ∷ []
 unfolding byte bytes_of eight_of put_bytes
-swr-table = refl
+swr_table = refl
 
-pub sdl-table :
+pub sdl_table :
     stores sdl
     ≡ 0x4142434445464748
     ∷ 0x4941424344454647
@@ -157,9 +157,9 @@ pub sdl-table :
     ∷ 0x494a4b4c4d4e4f41
     ∷ []
 unfolding byte bytes_of eight_of put_bytes
-sdl-table = refl
+sdl_table = refl
 
-pub sdr-table :
+pub sdr_table :
     stores sdr
     ≡ 0x484a4b4c4d4e4f50
     ∷ 0x47484b4c4d4e4f50
@@ -171,4 +171,4 @@ pub sdr-table :
     ∷ 0x4142434445464748
     ∷ []
 unfolding byte bytes_of eight_of put_bytes
-sdr-table = refl
+sdr_table = refl

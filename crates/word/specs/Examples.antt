@@ -48,12 +48,12 @@ unfolding quotient divided by_zero register
 by_zero_lem = (refl, refl, refl)
 
 -- what stands above a word does not count: in the divisor, in a dividend below zero, in one of zero or more
-pub by-zero-word :
+pub by_zero_word :
     (div 0xffff_ffff_8000_0000 0x1_0000_0000 ≡ both 0xffff_ffff_8000_0000 1)
     × (div 0x1_8000_0000 0 ≡ both 0xffff_ffff_8000_0000 1)
     × (div 0xffff_ffff_0000_0005 0 ≡ both 5 ones)
 unfolding quotient divided by_zero register
-by-zero-word = (refl, refl, refl)
+by_zero_word = (refl, refl, refl)
 
 -- DIVU of 80000000, sign-extended or not, of 7fffffff and of 0
 pub by_zero_unsigned :
@@ -65,13 +65,13 @@ unfolding quotient_unsigned divided by_zero register
 by_zero_unsigned = (refl, refl, refl, refl)
 
 -- DDIV of the least, of 80000000 and of 0; by a divisor that is zero in its low word only, it divides
-pub by-zero-double :
+pub by_zero_double :
     (ddiv 0x8000_0000_0000_0000 0 ≡ both 0x8000_0000_0000_0000 1)
     × (ddiv 0x8000_0000 0 ≡ both 0x8000_0000 ones)
     × (ddiv 0 0 ≡ both 0 ones)
     × (ddiv 5 0x1_0000_0000 ≡ both 5 0)
 unfolding quotient divided by_zero register
-by-zero-double = (refl, refl, refl, refl)
+by_zero_double = (refl, refl, refl, refl)
 
 -- DDIVU of all ones and of 0
 pub by_zero_double_unsigned : (ddivu ones 0 ≡ both ones ones) × (ddivu 0 0 ≡ both 0 ones)

@@ -5,6 +5,8 @@ use denote.Param.Laws.{Laws}
 use mir.Syntax.{Dict}
 use Rattle.std.specs.declared.io.Eprint.{Ghosts}
 use Rattle.promise.specs.Unique.{Unique, same}
+use Rattle.program.proofs.exit_code.Kinds as exit_code-kinds
+use Rattle.program.proofs.exit_code.Reads as exit_code-reads
 use Rattle.program.proofs.misused.Kinds as misused-kinds
 use Rattle.program.proofs.misused.Reads as misused-reads
 use Rattle.program.proofs.refused.Kinds as refused-kinds
@@ -18,6 +20,9 @@ use Rattle.program.proofs.unwritten.Reads as unwritten-reads
 
 pub status_once : Unique status-kinds.ps status-kinds.r status-reads.Pre status-reads.Post
 status_once κs a p z₁ z₂ ws₁ ws₂ h₁ h₂ = (same h₁ h₂, refl)
+
+pub exit_code_once : Unique exit_code-kinds.ps exit_code-kinds.r exit_code-reads.Pre exit_code-reads.Post
+exit_code_once κs a p z₁ z₂ ws₁ ws₂ h₁ h₂ = (λ i. record { status = same h₁ h₂ i }, refl)
 
 -- whatever the runtime is that says the line
 module _ (T : RattleType) (L : Laws T) (R : Ghosts T.Denot) (D : Dict) where

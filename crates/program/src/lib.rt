@@ -1,7 +1,7 @@
 // How a program takes its whole input, gives its whole answer, and ends.
 #![tactic(auto)]
 
-ghost use Rattle.std.specs.Prelude.{◌≡◌, ◌≤◌, pos};
+ghost use Rattle.std.specs.Prelude.{◌≡◌, ◌≤◌, unsigned_abs};
 ghost use Rattle.std.specs.Process.{exit_status};
 ghost use Rattle.program.specs.Ends.{status_of, end_of};
 ghost use Rattle.program.specs.Within.{Within};
@@ -45,7 +45,7 @@ pub fn status(end: End) -> i32
 
 // The status of an end, as `main` returns it.
 pub fn exit_code(end: End) -> ExitCode
-    ensures { pos (exit_status result) ≡ status_of end }
+    ensures { exit_status result ≡ unsigned_abs (status_of end) }
 {
     ExitCode::from(status(end) as u8)
 }

@@ -1,6 +1,7 @@
 /* cardstate with a painted stack. At each call of card::run the stack below it is painted; at its return the lowest byte that
    is no longer as painted says how many bytes the call needed, its return address included. The greatest goes to standard error,
-   after whatever cardstate writes; where card::run is not reached, nothing does. x86-64 alone: breakpoints stand at both places. */
+   after whatever cardstate writes; where card::run is not reached, nothing does. bench/stack gives cardstate's own main the name
+   program_main. x86-64 alone: breakpoints stand at both places. */
 #define _GNU_SOURCE
 #include <signal.h>
 #include <stdint.h>
@@ -10,7 +11,7 @@
 #include <ucontext.h>
 #include <unistd.h>
 
-int cardstate_status(void);
+int program_main(int count, char **words);
 extern uint8_t card_run[];
 
 enum { DEPTH = 1 << 18, BREAK = 0xcc };
@@ -71,7 +72,7 @@ static void trapped(int number, siginfo_t *info, void *context) {
     stop("a breakpoint of no one's");
 }
 
-int main(void) {
+int main(int count, char **words) {
   static uint8_t own[1 << 16];
   stack_t other = {.ss_sp = own, .ss_size = sizeof own};
   struct sigaction action = {.sa_sigaction = trapped, .sa_flags = SA_SIGINFO | SA_ONSTACK};
@@ -80,7 +81,7 @@ int main(void) {
   writable(card_run);
   kept_run = *card_run;
   *card_run = BREAK;
-  int status = cardstate_status();
+  int status = program_main(count, words);
   if (deepest >= 0)
     fprintf(stderr, "%ld\n", deepest);
   return status;

@@ -38,7 +38,7 @@ same_bytes (suc s) x y h =
     let e : 8 * suc s ≡ 8 + 8 * s = omega arith in
     rw (e, mod-pow-add x 8 (8 * s), mod-pow-add y 8 (8 * s), h s (omega arith), same_bytes s x y (λ i l. h i (omega arith)))
 
--- a merge, said byte by byte (with_below, with_in, with-above: no proof needs them, they tell a reader what `with_bytes` is)
+-- a merge, said byte by byte (with_below, with_in, with_above: no proof needs them, they tell a reader what `with_bytes` is)
 module _ (x low count y : ℕ) where
   top : ℕ
   top = x / 2 ^ (8 * (low + count))

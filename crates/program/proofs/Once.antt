@@ -22,7 +22,7 @@ pub status_once : Unique status-kinds.ps status-kinds.r status-reads.Pre status-
 status_once κs a p z₁ z₂ ws₁ ws₂ h₁ h₂ = (same h₁ h₂, refl)
 
 pub exit_code_once : Unique exit_code-kinds.ps exit_code-kinds.r exit_code-reads.Pre exit_code-reads.Post
-exit_code_once κs a p z₁ z₂ ws₁ ws₂ h₁ h₂ = (λ i. record { status = same h₁ h₂ i }, refl)
+exit_code_once κs a p z₁ z₂ ws₁ ws₂ h₁ h₂ = (λ i. record { status = same h₁.0 h₂.0 i }, refl)
 
 -- whatever the runtime is that says the line
 module _ (T : RattleType) (L : Laws T) (R : Ghosts T.Denot) (D : Dict) where

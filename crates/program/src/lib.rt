@@ -45,7 +45,8 @@ pub fn status(end: End) -> i32
 
 // The status of an end, as `main` returns it.
 pub fn exit_code(end: End) -> ExitCode
-    ensures { exit_status result ≡ unsigned_abs (status_of end) }
+    ensures value { exit_status result ≡ unsigned_abs (status_of end) }
+    ensures bound { exit_status result ≤ 3 }
 {
     ExitCode::from(status(end) as u8)
 }
@@ -153,7 +154,7 @@ fn end_of(written: bool) -> End
     End::Unwritten
 }
 
-// Says a line on standard error; where that fails nothing is left to say it on. A line that is no text is said byte by byte.
+// Says a line on standard error; where that fails nothing is left to say it on. Of a line that is no text each byte is said as a character.
 fn say<R: Eprint>(rt: &R, line: &[u8]) {
     if let Ok(text) = str::from_utf8(line) {
         let _ = rt.eprint(text);

@@ -73,11 +73,11 @@ sum_sources() {
 # Prints the sum of all files in parts of a folder, those behind links too; nothing else may be there: sum_of_files FOLDER PART..
 # What rt keeps in a crate's own folder out/ is left out.
 sum_of_files() {
-  local sum kept=(-regextype posix-extended -regex 'crates/[^/]+/out' -type d -prune)
+  local sum skipped=(-regextype posix-extended -regex 'crates/[^/]+/out' -type d -prune)
   cd -- "$1" || return
   shift
-  sum=$(set -o pipefail && [ -z "$(find -L "$@" "${kept[@]}" -o ! -type f ! -type d -print -quit)" ] &&
-    find -L "$@" "${kept[@]}" -o -type f -print0 | sort -z | xargs -0 sha256sum -- | sha256sum) && printf '%s' "${sum%% *}"
+  sum=$(set -o pipefail && [ -z "$(find -L "$@" "${skipped[@]}" -o ! -type f ! -type d -print -quit)" ] &&
+    find -L "$@" "${skipped[@]}" -o -type f -print0 | sort -z | xargs -0 sha256sum -- | sha256sum) && printf '%s' "${sum%% *}"
 }
 
 # Prints the sum of a file, nothing where it cannot be read.

@@ -86,6 +86,8 @@ prove() {
 # program's own where it ran, so what tells is the file.
 run_all() {
   local name file
+  # rt ci heeds neither; one would allow C, the other choose the compiler
+  unset RT_ALLOW_C RT_BACKEND
   for name in "${programs[@]}"; do
     file=$(linked "$name")
     cd -- "${file%/out/*}" && rt run

@@ -46,18 +46,16 @@ find_program() {
   command=("${runner[@]}" "$folder/$1")
 }
 
-# Sets $kit to the toolchain's folder, $tools to what it has for this machine, and $runner to the words before a program: the kit's
-# loader and C library, under the kit's emulator on Arm. Without a toolchain its status is not 0.
+# Sets $kit to the toolchain's folder and $runner to the words before a program: the kit's loader and C library. Without a toolchain, or on
+# a machine that it has nothing for, its status is not 0.
 find_kit() {
   kit=${RATTLE_HOME:-}
   if [ -z "$kit" ]; then
     kit=$(command -v rt) && kit=$(readlink -f -- "$kit") || return
     kit=${kit%/*/*}
   fi
-  tools=$kit/on/$(uname -m)/toolchain
-  runner=("$tools/lib/ld-linux-x86-64.so.2" --library-path "$tools/lib")
-  [ ! -x "$tools/bin/qemu-x86_64" ] || runner=("$tools/bin/qemu-x86_64" "${runner[@]}")
-  [ -e "$tools/lib/ld-linux-x86-64.so.2" ]
+  runner=("$kit/toolchain/lib/ld-linux-x86-64.so.2" --library-path "$kit/toolchain/lib")
+  [ "$(uname -m)" = x86_64 ] && [ -e "${runner[0]}" ]
 }
 
 need_kit() {
@@ -73,12 +71,13 @@ sum_sources() {
 }
 
 # Prints the sum of all files in parts of a folder, those behind links too; nothing else may be there: sum_of_files FOLDER PART..
+# What rt keeps in a crate's own folder out/ is left out.
 sum_of_files() {
-  local sum
+  local sum skipped=(-regextype posix-extended -regex 'crates/[^/]+/out' -type d -prune)
   cd -- "$1" || return
   shift
-  sum=$(set -o pipefail && [ -z "$(find -L "$@" ! -type f ! -type d -print -quit)" ] &&
-    find -L "$@" -type f -print0 | sort -z | xargs -0 sha256sum -- | sha256sum) && printf '%s' "${sum%% *}"
+  sum=$(set -o pipefail && [ -z "$(find -L "$@" "${skipped[@]}" -o ! -type f ! -type d -print -quit)" ] &&
+    find -L "$@" "${skipped[@]}" -o -type f -print0 | sort -z | xargs -0 sha256sum -- | sha256sum) && printf '%s' "${sum%% *}"
 }
 
 # Prints the sum of a file, nothing where it cannot be read.

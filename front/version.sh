@@ -11,7 +11,8 @@ card_version() {
   front_sum=$(sum_of_files "$root" card front) || fail "a file of front/ cannot be read"
   if find_kit; then
     toolchain=$(cat -- "$kit/KIT-ID") || fail "the toolchain cannot be read"
-    toolchain_sum=$(sum_of_files "$kit" KIT-ID bin lib libs logic toolchain "on/$(uname -m)") || fail "the toolchain cannot be read"
+    # each library's file `format` has the sums of what the library is made of
+    toolchain_sum=$(cd -- "$kit" && sum_of_files . KIT-ID bin c toolchain rattle/logic rlibs/*/format) || fail "the toolchain cannot be read"
   fi
   {
     commit

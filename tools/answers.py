@@ -46,7 +46,6 @@ class Text:
     def chains(self, text, env, goal):
         # aliases first
         while True:
-            m = re.search(rf"\blet ({NAME}) = ({NAME})((?:\.before)*) in\s*", text)
             hit = None
             for m in re.finditer(rf"\blet ({NAME}) = ({NAME})((?:\.before)*) in\s*", text):
                 if m[2] in env:
@@ -77,7 +76,7 @@ class Text:
                 if goal:
                     self.used.add(self.by[cur]["new"])
                     return f"(goal.at.{self.label} {root}).{self.by[cur]['new']}"
-                return root + ".before" * 0 if cur == env[root][1] else f"{root}.{self.by[cur]['new']}"
+                return root if cur == env[root][1] else f"{root}.{self.by[cur]['new']}"
             p = self.by[cur]
             step, rest = comps[0], comps[1:]
             if step in ("args", "requires", "ranges", "fits"):
@@ -267,10 +266,7 @@ def convert(crate, folder, info, landed=None):
                 env.setdefault(z[2], (z[2], p))
         b2 = b
         if env:
-            lines2 = []
-            for line in b.split("\n"):
-                lines2.append(line if re.match(rf"^\s*(module |{NAME}( \(.*\))* : )", line) and "(" in line and ": " in line and " = " not in line and False else t.chains(line, dict(env), False))
-            b2 = "\n".join(lines2)
+            b2 = "\n".join(t.chains(line, dict(env), False) for line in b.split("\n"))
         if "tie." in b2:
             hard.append("tie in helper")
         hard += t.hard
@@ -281,11 +277,11 @@ def convert(crate, folder, info, landed=None):
     os.remove(f"{path}/Proof.antt")
     if inv:
         with open(f"{path}/Invariants.antt", "w", encoding="utf-8") as f:
-            f.write("\n".join(comment + [u for u in uses if "rules" not in u or True] + [f"use {base}.Given as goal", ""]) + "\n" + "\n\n".join(inv) + "\n")
+            f.write("\n".join(comment + uses + [f"use {base}.Given as goal", ""]) + "\n" + "\n\n".join(inv) + "\n")
     if ans:
         extra = [f"use {base}.Goals.{{{', '.join(sorted(places))}}}"] if places else []
         with open(f"{path}/Answers.antt", "w", encoding="utf-8") as f:
-            f.write("\n".join((comment if not inv else comment) + uses + [f"use {base}.Goals as goal"] + extra + [""]) + "\n" + "\n\n".join(ans) + "\n")
+            f.write("\n".join(([] if inv else comment) + uses + [f"use {base}.Goals as goal"] + extra + [""]) + "\n" + "\n\n".join(ans) + "\n")
     if not os.listdir(path):
         os.rmdir(path)
     return hard

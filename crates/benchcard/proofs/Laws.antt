@@ -1,5 +1,5 @@
 -- A number with one digit more: what it is, and that it stays below the power of ten.
-use Rattle.std.proofs.Common.{◌≡◌, ℕ, suc, ◌+◌, ◌*◌, ◌^◌, ◌<◌, ◌≤◌, List, length, get_or, drop, pow-suc, add-one, arith, drop-cons, le-ltb, lt-ltb}
+use Rattle.std.proofs.Common.{◌≡◌, ℕ, ◌+◌, ◌*◌, ◌^◌, ◌<◌, ◌≤◌, List, length, get_or, drop, pow-suc, add-one, arith, drop-cons, le-ltb, lt-ltb}
 use native.Mathlib.Nat.{pow-le-pow_right}
 use lib.Seq.{drop-length}
 use Rattle.benchcard.specs.Arguments.{digit, number}

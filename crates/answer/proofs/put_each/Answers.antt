@@ -1,4 +1,3 @@
--- The invariant: what is left to write, written, gives what the whole would.
 use mathlib.Core.Path.{refl}
 use native.Mathlib.Omega.{arith}
 use lib.Seq.{length-sets}

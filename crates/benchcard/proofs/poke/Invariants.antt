@@ -1,5 +1,5 @@
 -- The words are written one after the other; memory keeps its length.
-use Rattle.std.proofs.Common.{◌≡◌, ◌-◌, ◌≤◌, length, rules}
+use Rattle.std.proofs.Common.{◌≡◌, ◌-◌, ◌≤◌, length}
 use Rattle.benchcard.proofs.poke.Given as goal
 
 abbrev pub invariant-loop-i : goal.invariant-loop-i

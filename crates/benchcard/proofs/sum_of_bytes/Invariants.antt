@@ -1,5 +1,5 @@
 -- The bytes are added one after the other; what is left of them falls.
-use Rattle.std.proofs.Common.{◌-◌, ◌≤◌, length, rules}
+use Rattle.std.proofs.Common.{◌-◌, ◌≤◌, length}
 use Rattle.benchcard.proofs.sum_of_bytes.Given as goal
 
 abbrev pub invariant-loop-i : goal.invariant-loop-i

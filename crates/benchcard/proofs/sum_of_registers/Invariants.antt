@@ -1,5 +1,5 @@
 -- The registers are added one after the other; what is left of them falls.
-use Rattle.std.proofs.Common.{◌-◌, ◌≤◌, rules}
+use Rattle.std.proofs.Common.{◌-◌, ◌≤◌}
 use Rattle.benchcard.proofs.sum_of_registers.Given as goal
 
 abbrev pub invariant-loop-i : goal.invariant-loop-i

@@ -1,6 +1,5 @@
 -- What was read stands within its room.
 use Rattle.program.proofs.Reading.{bytes_within}
-use borrow.Author.Rules.{rules}
 use Rattle.cardimage_main.proofs.image_of.Goals as goal
 
 pub slice_bounds-with_settings-end : goal.slice_bounds-with_settings-end

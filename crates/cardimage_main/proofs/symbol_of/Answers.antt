@@ -1,6 +1,5 @@
 -- What was read stands within its room.
 use Rattle.program.proofs.Reading.{bytes_within}
-use borrow.Author.Rules.{rules}
 use Rattle.cardimage_main.proofs.symbol_of.Goals as goal
 
 pub slice_bounds-value_of-end : goal.slice_bounds-value_of-end

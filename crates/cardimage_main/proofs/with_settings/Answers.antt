@@ -1,6 +1,5 @@
 -- What was read stands within its room.
 use Rattle.program.proofs.Reading.{bytes_within}
-use borrow.Author.Rules.{rules}
 use Rattle.cardimage_main.proofs.with_settings.Goals as goal
 
 pub slice_bounds-make-end : goal.slice_bounds-make-end

@@ -1,6 +1,5 @@
 -- What was read stands within its room.
 use Rattle.program.proofs.Reading.{bytes_within}
-use borrow.Author.Rules.{rules}
 use Rattle.cardstate_main.proofs.answer_input.Goals as goal
 
 pub slice_bounds-text-end : goal.slice_bounds-text-end

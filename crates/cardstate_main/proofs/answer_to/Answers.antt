@@ -1,7 +1,6 @@
 -- The image is read, then refused or run, as the definition says.
 use borrow.Author.Tests.{eq-eqb, ne_eqb}
 use Rattle.cardstate_main.specs.Printed.{printed}
-use borrow.Author.Rules.{rules}
 use Rattle.cardstate_main.proofs.answer_to.Goals as goal
 
 pub returns-then-i-ne0 : goal.returns-then-i-ne0

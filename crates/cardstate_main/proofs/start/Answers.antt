@@ -1,6 +1,5 @@
 -- What was read stands within its room.
 use Rattle.program.proofs.Reading.{bytes_within}
-use borrow.Author.Rules.{rules}
 use Rattle.cardstate_main.proofs.start.Goals as goal
 
 pub slice_bounds-answer_input-end : goal.slice_bounds-answer_input-end

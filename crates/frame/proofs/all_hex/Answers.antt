@@ -1,4 +1,3 @@
--- The invariant: what is left of the line has only digits exactly where the whole line has.
 use mathlib.Core.Path.{refl, sym, ap, ◌∙◌}
 use native.Mathlib.Omega.{arith}
 use Rattle.frame.specs.Digits.{hex?}

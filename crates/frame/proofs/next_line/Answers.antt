@@ -1,4 +1,3 @@
--- The invariant: what was passed, with the line of what is left, is the line of the whole text.
 use mathlib.Core.Path.{refl, sym, ◌∙◌}
 use native.Mathlib.Omega.{arith}
 use lib.Seq.{length-take-le}

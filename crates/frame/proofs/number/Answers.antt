@@ -1,4 +1,3 @@
--- The invariant: the digits that are left, after the number so far, make the whole number.
 use Prim.Native.Nat.{◌<◌, ◌+◌, ◌-◌, ◌*◌, ◌^◌}
 use mathlib.Core.Path.{◌≡◌, refl, sym, ap, ◌∙◌}
 use native.Mathlib.Nat.{one-le-pow}

@@ -1,4 +1,3 @@
--- The invariant: the frames of what is left, from what the frames before them left, leave what all of them leave.
 use mathlib.Core.Path.{refl, sym, ap, ◌∙◌}
 use native.Mathlib.Omega.{arith}
 use borrow.Author.Rules.{rules}

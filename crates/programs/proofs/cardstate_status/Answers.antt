@@ -1,6 +1,5 @@
 -- The status of an end is one of the four.
 use Rattle.programs.proofs.Known.{known}
-use borrow.Author.Rules.{rules}
 use Rattle.programs.proofs.cardstate_status.Goals as goal
 
 pub returns : goal.returns

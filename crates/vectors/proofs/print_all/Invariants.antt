@@ -1,7 +1,6 @@
 -- The invariant: no image has gone past the file; the measure is what is left of it.
 use Prim.Native.Nat.{◌≤◌, ◌-◌}
 use lib.ListN.{length}
-use borrow.Author.Rules.{rules}
 use Rattle.vectors.proofs.print_all.Given as goal
 
 abbrev pub invariant-loop-at : goal.invariant-loop-at

@@ -1,6 +1,5 @@
 -- As many bytes as were read stand at the start of their room.
 use Rattle.program.proofs.Reading.{bytes_within}
-use borrow.Author.Rules.{rules}
 use Rattle.vectors.proofs.print_with_rom.Goals as goal
 
 pub slice_bounds-print_answer-end : goal.slice_bounds-print_answer-end

@@ -1,6 +1,5 @@
 -- As many bytes as were read stand at the start of their room.
 use Rattle.program.proofs.Reading.{bytes_within}
-use borrow.Author.Rules.{rules}
 use Rattle.vectors.proofs.vectors.Goals as goal
 
 pub slice_bounds-answer_file-end : goal.slice_bounds-answer_file-end

@@ -1,4 +1,3 @@
--- The invariant: what is left of the text, put, gives what the whole would.
 use mathlib.Core.Path.{refl, sym, ◌∙◌}
 use native.Mathlib.Omega.{arith}
 use native.Mathlib.Numerals.{unary_clauses}

@@ -1,5 +1,5 @@
 -- Each test of the code is a test of the definition.
-use Rattle.std.proofs.Common.{rules, le-leb}
+use Rattle.std.proofs.Common.{le-leb}
 use borrow.Author.Tests.{lt-leb}
 use Rattle.benchcard.specs.Arguments.{digit}
 use Rattle.benchcard.proofs.arguments.digit.Goals as goal

@@ -1,6 +1,4 @@
--- The invariant: the number so far, with the digits that are left, is the number of all; it is below the power of ten, so no sum wraps.
-use Rattle.std.proofs.Common.{◌≡◌, ◌-◌, ◌^◌, ◌<◌, ◌≤◌, length, drop, sym, refl, ◌∙◌, arith, rules}
-use Rattle.benchcard.specs.Arguments.{number}
+use Rattle.std.proofs.Common.{◌≡◌, ◌-◌, ◌^◌, ◌<◌, ◌≤◌, length, sym, refl, ◌∙◌, arith, rules}
 use Rattle.benchcard.proofs.Laws.{digit_more, no_digit, no_more, below, fits}
 use Rattle.benchcard.proofs.arguments.number.Goals as goal
 

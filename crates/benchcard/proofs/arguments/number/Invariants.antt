@@ -1,7 +1,7 @@
 -- The invariant: the number so far, with the digits that are left, is the number of all; it is below the power of ten, so no sum wraps.
-use Rattle.std.proofs.Common.{◌≡◌, ◌-◌, ◌^◌, ◌<◌, ◌≤◌, length, drop, sym, refl, ◌∙◌, arith, rules}
+use Rattle.std.proofs.Common.{◌≡◌, ◌-◌, ◌^◌, ◌<◌, ◌≤◌, length, drop, ◌∙◌}
 use Rattle.benchcard.specs.Arguments.{number}
-use Rattle.benchcard.proofs.Laws.{digit_more, no_digit, no_more, below, fits}
+use Rattle.benchcard.proofs.Laws.{below}
 use Rattle.benchcard.proofs.arguments.number.Given as goal
 
 abbrev pub invariant-loop-i : goal.invariant-loop-i

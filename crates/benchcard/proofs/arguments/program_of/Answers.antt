@@ -1,5 +1,5 @@
 -- Each test of the code is a test of the definition.
-use Rattle.std.proofs.Common.{sym, ◌∙◌, rules}
+use Rattle.std.proofs.Common.{sym, ◌∙◌}
 use Rattle.benchcard.specs.Arguments.{program_of}
 use Rattle.benchcard.proofs.arguments.program_of.Goals as goal
 

@@ -1,7 +1,6 @@
 -- The invariant: the words are the same if what is left of them is; a byte or the lengths that differ decide it.
-use Rattle.std.proofs.Common.{◌≡◌, ◌-◌, ◌<◌, ◌≤◌, length, drop, sym, refl, ◌∙◌, arith, rules}
+use Rattle.std.proofs.Common.{◌≡◌, ◌-◌, ◌<◌, ◌≤◌, length, drop, ◌∙◌}
 use Rattle.benchcard.specs.Arguments.{same}
-use Rattle.benchcard.proofs.Words.{other_length, same_byte, other_byte, no_more_bytes}
 use Rattle.benchcard.proofs.arguments.same.Given as goal
 
 abbrev pub invariant-loop-i : goal.invariant-loop-i

@@ -1,4 +1,3 @@
--- `run` meets its contract: the steps done and those left are the whole run.
 use mathlib.Core.Path.{refl, sym, ap, ◌∙◌}
 use borrow.Author.Rules.{rules}
 use Rattle.card.specs.Run.{Whole, ran}

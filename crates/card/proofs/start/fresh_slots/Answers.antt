@@ -1,4 +1,3 @@
--- The invariant: the turns that are left lead from the slots so far to the definition's 48; from zeros they do by computation.
 use Prim.Native.Nat.{ℕ, suc, ◌+◌, ◌-◌}
 use mathlib.Core.Path.{◌≡◌, refl, sym, ap, ◌∙◌}
 use native.Mathlib.Omega.{arith}

@@ -1,7 +1,6 @@
 -- Each word has its number of arguments.
 use Rattle.cardimage_main.specs.Arguments.{counted}
 use borrow.Author.Tests.{eq-eqb, ne_eqb, lt-leb, le-leb}
-use borrow.Author.Rules.{rules}
 use Rattle.cardimage_main.proofs.arguments.counted.Goals as goal
 
 pub returns-then-n-lt4 : goal.returns-then-n-lt4

@@ -1,7 +1,6 @@
 -- The three words are tested in the order of the definition.
 use Rattle.cardimage_main.specs.Arguments.{mode_of}
 use mathlib.Core.Path.{sym, ◌∙◌}
-use borrow.Author.Rules.{rules}
 use Rattle.cardimage_main.proofs.arguments.mode_of.Goals as goal
 
 pub returns-then-same_bytes : goal.returns-then-same_bytes

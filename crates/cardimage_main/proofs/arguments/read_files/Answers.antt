@@ -1,12 +1,9 @@
--- The invariant: what was read so far stands within the room.
 use mathlib.Core.Path.{◌≡◌, refl}
 use borrow.Author.Rules.{rules}
 use Rattle.io.proofs.Counting.{prefix_len_of_le}
 use Rattle.program.proofs.Reading.{bytes_within}
 use Prim.Native.Nat.{◌-◌, ◌≤◌}
-use mathlib.Core.Path.{◌≡◌, refl}
 use native.Mathlib.Omega.{arith}
-use lib.ListN.{length}
 use Rattle.cardimage_main.proofs.arguments.read_files.Goals as goal
 
 pub loop-k-init : goal.loop-k-init

@@ -1,11 +1,6 @@
 -- The invariant: what was read so far stands within the room.
-use mathlib.Core.Path.{◌≡◌, refl}
-use borrow.Author.Rules.{rules}
-use Rattle.io.proofs.Counting.{prefix_len_of_le}
-use Rattle.program.proofs.Reading.{bytes_within}
+use mathlib.Core.Path.{◌≡◌}
 use Prim.Native.Nat.{◌-◌, ◌≤◌}
-use mathlib.Core.Path.{◌≡◌, refl}
-use native.Mathlib.Omega.{arith}
 use lib.ListN.{length}
 use Rattle.cardimage_main.proofs.arguments.read_files.Given as goal
 

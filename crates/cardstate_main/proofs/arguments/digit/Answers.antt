@@ -2,7 +2,6 @@
 use native.Mathlib.Omega.{arith}
 use borrow.Author.Tests.{le-leb, lt-leb}
 use Rattle.cardstate_main.specs.Arguments.{digit}
-use borrow.Author.Rules.{rules}
 use Rattle.cardstate_main.proofs.arguments.digit.Goals as goal
 
 pub returns-then-b-lt48 : goal.returns-then-b-lt48

@@ -1,7 +1,6 @@
 -- Each test of the code is a test of the definition.
 use borrow.Author.Tests.{eq-eqb, ne_eqb}
 use Rattle.cardstate_main.specs.Arguments.{lines_of}
-use borrow.Author.Rules.{rules}
 use Rattle.cardstate_main.proofs.arguments.lines_of.Goals as goal
 
 pub returns-then-word-eq1 : goal.returns-then-word-eq1

@@ -1,7 +1,6 @@
 -- The test of the code is the test of the definition.
 use borrow.Author.Tests.{lt-ltb, le-ltb}
 use Rattle.cardstate_main.specs.Arguments.{one}
-use borrow.Author.Rules.{rules}
 use Rattle.cardstate_main.proofs.arguments.lines_of_one.Goals as goal
 
 pub returns-then-x-lt16 : goal.returns-then-x-lt16

@@ -1,7 +1,6 @@
 -- Each test of the code is a test of the definition.
 use borrow.Author.Tests.{lt-ltb, le-ltb}
 use Rattle.cardstate_main.specs.Arguments.{two}
-use borrow.Author.Rules.{rules}
 use Rattle.cardstate_main.proofs.arguments.lines_of_two.Goals as goal
 
 pub returns-then-y-lt16 : goal.returns-then-y-lt16

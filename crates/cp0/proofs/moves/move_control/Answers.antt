@@ -1,5 +1,6 @@
 -- By the number: at each key the definition computes to the registers that are set.
-use Rattle.std.proofs.Common.{ℕ, sym, ap, ne_eqb}
+use Rattle.std.proofs.Common.{arith, ℕ, sym, ap}
+use Rattle.std.proofs.lemmas.Grind.{common_steps}
 use Rattle.cp0.specs.Moves.{move_control}
 use Rattle.cp0.specs.Registers.{set}
 use Rattle.cp0.proofs.moves.move_control.Goals as goal
@@ -34,4 +35,4 @@ returns-in-29 c = sym (ap (λ (n : ℕ). move_control c.args.cp0 n c.args.w) c.i
 
 pub returns-in_default : goal.returns-in_default
 unfolding move_control set
-returns-in_default c = simp (ne_eqb _ _ c.in_default.in_default-own.rest.0.0.0.0.0.0.1, ne_eqb _ _ c.in_default.in_default-own.rest.0.0.0.0.0.1, ne_eqb _ _ c.in_default.in_default-own.rest.0.0.0.0.1, ne_eqb _ _ c.in_default.in_default-own.rest.0.0.0.1, ne_eqb _ _ c.in_default.in_default-own.rest.0.0.1, ne_eqb _ _ c.in_default.in_default-own.rest.0.1, ne_eqb _ _ c.in_default.in_default-own.rest.1)
+returns-in_default c = grind (arith, common_steps)

@@ -1,5 +1,6 @@
 -- By the number: at each key the definition computes to the register that is read.
-use Rattle.std.proofs.Common.{ℕ, sym, ap, ne_eqb}
+use Rattle.std.proofs.Common.{arith, ℕ, sym, ap}
+use Rattle.std.proofs.lemmas.Grind.{common_steps}
 use Rattle.cp0.specs.Moves.{move_out}
 use Rattle.cp0.proofs.moves.move_out.Goals as goal
 
@@ -21,4 +22,4 @@ returns-in-30 c = sym (ap (λ (n : ℕ). move_out c.args.cp0 c.args.lines n) c.i
 
 pub returns-in_default : goal.returns-in_default
 unfolding move_out
-returns-in_default c = simp (ne_eqb _ _ c.in_default.in_default-own.rest.0.0.0.1, ne_eqb _ _ c.in_default.in_default-own.rest.0.0.1, ne_eqb _ _ c.in_default.in_default-own.rest.0.1, ne_eqb _ _ c.in_default.in_default-own.rest.1, c.word_of.ensures, c.wide.ensures, c.extend.ensures)
+returns-in_default c = grind (arith, common_steps)

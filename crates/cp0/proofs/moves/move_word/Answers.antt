@@ -1,5 +1,6 @@
 -- By the number: at each key the definition computes to the register that is set.
-use Rattle.std.proofs.Common.{ℕ, sym, ap, ne_eqb}
+use Rattle.std.proofs.Common.{arith, ℕ, sym, ap}
+use Rattle.std.proofs.lemmas.Grind.{common_steps}
 use Rattle.cp0.specs.Moves.{move_word}
 use Rattle.cp0.specs.Registers.{set}
 use Rattle.cp0.proofs.moves.move_word.Goals as goal
@@ -30,4 +31,4 @@ returns-in-10 c = simp (c.wide.ensures, c.kept_entryhi.ensures) (sym (ap (λ (n 
 
 pub returns-in_default : goal.returns-in_default
 unfolding move_word set
-returns-in_default c = simp (ne_eqb _ _ c.in_default.in_default-own.rest.0.0.0.0.0.1, ne_eqb _ _ c.in_default.in_default-own.rest.0.0.0.0.1, ne_eqb _ _ c.in_default.in_default-own.rest.0.0.0.1, ne_eqb _ _ c.in_default.in_default-own.rest.0.0.1, ne_eqb _ _ c.in_default.in_default-own.rest.0.1, ne_eqb _ _ c.in_default.in_default-own.rest.1, c.move_control.ensures)
+returns-in_default c = grind (arith, common_steps)

@@ -1,5 +1,6 @@
 -- By the number: at each key the definition computes to the register that is read.
-use Rattle.std.proofs.Common.{ℕ, sym, ap, ne_eqb}
+use Rattle.std.proofs.Common.{arith, ℕ, sym, ap}
+use Rattle.std.proofs.lemmas.Grind.{common_steps}
 use Rattle.cp0.specs.Moves.{word_of}
 use Rattle.cp0.proofs.moves.word_of.Goals as goal
 
@@ -69,4 +70,4 @@ returns-in-29 c = sym (ap (λ (n : ℕ). word_of c.args.cp0 c.args.lines n) c.in
 
 pub returns-in_default : goal.returns-in_default
 unfolding word_of
-returns-in_default c = simp (ne_eqb _ _ c.in_default.in_default-own.rest.0.0.0.0.0.0.0.0.0.0.0.0.0.0.0.1, ne_eqb _ _ c.in_default.in_default-own.rest.0.0.0.0.0.0.0.0.0.0.0.0.0.0.1, ne_eqb _ _ c.in_default.in_default-own.rest.0.0.0.0.0.0.0.0.0.0.0.0.0.1, ne_eqb _ _ c.in_default.in_default-own.rest.0.0.0.0.0.0.0.0.0.0.0.0.1, ne_eqb _ _ c.in_default.in_default-own.rest.0.0.0.0.0.0.0.0.0.0.0.1, ne_eqb _ _ c.in_default.in_default-own.rest.0.0.0.0.0.0.0.0.0.0.1, ne_eqb _ _ c.in_default.in_default-own.rest.0.0.0.0.0.0.0.0.0.1, ne_eqb _ _ c.in_default.in_default-own.rest.0.0.0.0.0.0.0.0.1, ne_eqb _ _ c.in_default.in_default-own.rest.0.0.0.0.0.0.0.1, ne_eqb _ _ c.in_default.in_default-own.rest.0.0.0.0.0.0.1, ne_eqb _ _ c.in_default.in_default-own.rest.0.0.0.0.0.1, ne_eqb _ _ c.in_default.in_default-own.rest.0.0.0.0.1, ne_eqb _ _ c.in_default.in_default-own.rest.0.0.0.1, ne_eqb _ _ c.in_default.in_default-own.rest.0.0.1, ne_eqb _ _ c.in_default.in_default-own.rest.0.1, ne_eqb _ _ c.in_default.in_default-own.rest.1)
+returns-in_default c = grind (arith, common_steps)

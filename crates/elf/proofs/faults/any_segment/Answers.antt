@@ -1,4 +1,3 @@
--- The invariant: a segment is among the headers that are left where one is among all.
 use mathlib.Core.Path.{sym, ◌∙◌}
 use native.Mathlib.Omega.{arith}
 use Rattle.elf.proofs.Turns.{any_turn, any_done}

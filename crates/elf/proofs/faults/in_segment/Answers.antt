@@ -1,4 +1,3 @@
--- The invariant: a segment that is left covers the address where one of all does.
 use mathlib.Core.Path.{sym, ◌∙◌}
 use native.Mathlib.Omega.{arith}
 use Rattle.elf.proofs.Turns.{in_turn, in_done}

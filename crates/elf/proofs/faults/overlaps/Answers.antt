@@ -1,4 +1,3 @@
--- The invariant: the headers that are left give what all lower ones give.
 use mathlib.Core.Path.{refl, sym, ◌∙◌}
 use native.Mathlib.Omega.{arith}
 use Rattle.elf.proofs.Turns.{overlaps_turn, overlaps_done}

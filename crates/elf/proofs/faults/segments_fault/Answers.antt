@@ -1,4 +1,3 @@
--- The invariant: the first fault of the headers that are left is that of all headers.
 use mathlib.Core.Path.{sym, ◌∙◌}
 use native.Mathlib.Omega.{arith}
 use borrow.Author.Tests.{eq-eqb, ne_eqb}

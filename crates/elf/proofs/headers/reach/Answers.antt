@@ -1,4 +1,3 @@
--- The invariant: the headers that are left raise the reach so far to that of all headers.
 use mathlib.Core.Path.{sym, ◌∙◌}
 use native.Mathlib.Omega.{arith}
 use Rattle.elf.proofs.Turns.{reach_turn, reach_done}

@@ -1,4 +1,3 @@
--- The invariant: the headers that are left give what all headers give.
 use mathlib.Core.Path.{sym, ◌∙◌}
 use native.Mathlib.Omega.{arith}
 use Rattle.elf.specs.Home.{stands}

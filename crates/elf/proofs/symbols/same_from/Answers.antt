@@ -1,4 +1,3 @@
--- The invariant: the bytes of the name that are left agree where all do.
 use mathlib.Core.Path.{sym, ◌∙◌}
 use native.Mathlib.Omega.{arith}
 use borrow.Author.Tests.{eq-eqb, ne_eqb}

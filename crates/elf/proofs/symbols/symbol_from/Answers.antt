@@ -1,4 +1,3 @@
--- The invariant: the first symbol of those that are left is that of all.
 use mathlib.Core.Path.{refl, sym, ◌∙◌}
 use native.Mathlib.Omega.{arith}
 use Rattle.elf.proofs.Turns.{symbol_turn, symbol_done}

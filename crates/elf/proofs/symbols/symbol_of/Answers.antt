@@ -1,4 +1,3 @@
--- The invariant: the first section of symbols of those that are left is that of all.
 use mathlib.Core.Path.{sym, ◌∙◌}
 use native.Mathlib.Omega.{arith}
 use borrow.Author.Tests.{eq-eqb, ne_eqb}

@@ -1,4 +1,3 @@
--- The invariant: the first refusal of what is left, at its line number, is that of the whole text.
 use mathlib.Core.Path.{refl, sym, ◌∙◌}
 use native.Mathlib.Omega.{arith}
 use Rattle.image.proofs.Turns.{first_unended, first_refused, first_next, first_done}

@@ -1,4 +1,3 @@
--- The invariant: zeros as far as the loop has come, and what was there after it.
 use Prim.Native.Nat.{ℕ, ◌≤◌, ◌<◌}
 use mathlib.Core.Path.{◌≡◌, refl, ap, ◌∙◌}
 use mathlib.Core.List.{List, ◌++◌, append-nil}

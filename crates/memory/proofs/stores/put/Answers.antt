@@ -1,4 +1,3 @@
--- The invariant: what is left to put, put, gives what the whole would.
 use borrow.Author.Rules.{rules}
 use mathlib.Core.Path.{refl, sym, ◌∙◌}
 use native.Mathlib.Omega.{arith}

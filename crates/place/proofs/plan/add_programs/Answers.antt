@@ -1,4 +1,3 @@
--- The invariant: the programs left, added to what is planned, give what all give.
 use native.Mathlib.Omega.{arith}
 use mathlib.Core.Path.{refl, sym, ◌∙◌}
 use Rattle.place.proofs.Turns.{programs_next, programs_done}

@@ -1,4 +1,3 @@
--- The invariant: the pages left, added to what is planned, give what all give.
 use native.Mathlib.Omega.{arith}
 use mathlib.Core.Path.{refl, sym, ◌∙◌}
 use Rattle.place.proofs.Turns.{run_next, run_done}

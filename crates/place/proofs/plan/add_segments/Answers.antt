@@ -1,4 +1,3 @@
--- The invariant: the headers left, added to what is planned, give what all give.
 use native.Mathlib.Omega.{arith}
 use mathlib.Core.Path.{sym, ◌∙◌}
 use Rattle.place.proofs.Texts.{all_segments}

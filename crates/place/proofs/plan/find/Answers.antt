@@ -1,4 +1,3 @@
--- The invariant: of the slots left, the first is that of all.
 use native.Mathlib.Omega.{arith}
 use mathlib.Core.Path.{refl, sym, ◌∙◌}
 use Rattle.place.proofs.Turns.{find_here, find_next, find_none}

@@ -1,4 +1,3 @@
--- The invariant: the top of the headers left and of those passed is that of all.
 use native.Mathlib.Omega.{arith}
 use mathlib.Core.Path.{sym, ◌∙◌}
 use Rattle.place.proofs.Texts.{all_tops}

@@ -1,4 +1,3 @@
--- The invariant: what is filled, and then what is left to fill, is all.
 use native.Mathlib.Omega.{arith}
 use mathlib.Core.Path.{refl, sym, ◌∙◌}
 use lib.ListN.{length-set}

@@ -1,4 +1,3 @@
--- The invariant: the first fault of the programs left is that of all.
 use native.Mathlib.Omega.{arith}
 use mathlib.Core.Path.{refl, sym, ◌∙◌}
 use Rattle.place.proofs.Turns.{refused_here, refused_next, refused_none}

@@ -1,4 +1,3 @@
--- The invariant: what is left is the same if all is.
 use native.Mathlib.Omega.{arith}
 use mathlib.Core.Path.{refl, sym, ◌∙◌}
 use Rattle.place.proofs.Lists.{same_lengths, same_here, same_next, same_done}

@@ -1,4 +1,3 @@
--- The invariant: what is left to test gives the whole answer (`EachSlot`).
 use mathlib.Core.Path.{refl, sym, ◌∙◌}
 use native.Mathlib.Omega.{arith}
 use Rattle.tlb.specs.Range.{tlb_in_range}

@@ -1,4 +1,3 @@
--- The invariant: what is left to look through, after what was counted, gives the whole answer (`Seek`).
 use mathlib.Core.Path.{refl, sym, ◌∙◌}
 use native.Mathlib.Omega.{arith}
 use borrow.Author.Rules.{rules}

@@ -1,7 +1,6 @@
 -- The invariant: the place is at most the answer's length, and so is the end; the measure is what is left.
 use Prim.Native.Nat.{◌≤◌, ◌-◌}
 use lib.ListN.{length}
-use borrow.Author.Rules.{rules}
 use Rattle.vectors.proofs.differing.agree.Given as goal
 
 abbrev pub invariant-loop-at : goal.invariant-loop-at

@@ -1,7 +1,6 @@
 -- The invariant: the place has not passed the end; the measure is what is left.
 use Prim.Native.Nat.{◌≤◌, ◌-◌}
 use lib.ListN.{length}
-use borrow.Author.Rules.{rules}
 use Rattle.vectors.proofs.many.next_place.Given as goal
 
 abbrev pub invariant-loop-at : goal.invariant-loop-at

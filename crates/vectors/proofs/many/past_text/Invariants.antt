@@ -1,7 +1,6 @@
 -- The invariant: the place lies between the text's start and the file's end; the measure is what is left.
 use Prim.Native.Nat.{◌≤◌, ◌-◌}
 use lib.ListN.{length}
-use borrow.Author.Rules.{rules}
 use Rattle.vectors.proofs.many.past_text.Given as goal
 
 abbrev pub invariant-loop-at : goal.invariant-loop-at

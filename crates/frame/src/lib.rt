@@ -6,7 +6,7 @@ ghost use Rattle.frame.specs.Line as L;
 ghost use Rattle.frame.specs.Digits as D;
 ghost use Rattle.frame.specs.Frame as F;
 
-// What a line is: a frame by its tag, or none.
+// What a line may be: a frame, by its tag.
 #[derive(Clone, Copy)]
 pub enum Frame {
     Register {
@@ -29,7 +29,6 @@ pub enum Frame {
         lo0: u64,
         lo1: u64,
     },
-    NotFrame,
 }
 
 // The character that ends a line.
@@ -151,48 +150,48 @@ fn tagged(line: &[u8], tag: u64, digits: usize) -> bool
 }
 
 // The frame that a line of digits is.
-fn framed(line: &[u8]) -> Frame
+fn framed(line: &[u8]) -> Option<Frame>
     ensures { result ≡ F.framed line.now }
 {
     if tagged(line, 0x01, 20) {
-        return Frame::Register {
+        return Some(Frame::Register {
             number: number(line, 2, 2) as usize,
             value: number(line, 4, 16),
-        };
+        });
     }
     if tagged(line, 0x02, 26) {
-        return Frame::Memory {
+        return Some(Frame::Memory {
             address: number(line, 2, 8),
             value: number(line, 10, 16),
-        };
+        });
     }
     if tagged(line, 0x03, 10) {
-        return Frame::Budget(number(line, 2, 8));
+        return Some(Frame::Budget(number(line, 2, 8)));
     }
     if tagged(line, 0x04, 20) {
-        return Frame::Cp0 {
+        return Some(Frame::Cp0 {
             number: number(line, 2, 2) as usize,
             value: number(line, 4, 16),
-        };
+        });
     }
     if tagged(line, 0x05, 36) {
-        return Frame::Slot {
+        return Some(Frame::Slot {
             index: number(line, 2, 2) as usize,
             mask: number(line, 4, 8),
             hi: number(line, 12, 8),
             lo0: number(line, 20, 8),
             lo1: number(line, 28, 8),
-        };
+        });
     }
-    Frame::NotFrame
+    None
 }
 
-// The frame that a line is.
-pub fn frame_of(line: &[u8]) -> Frame
+// The frame that a line is, or none.
+pub fn frame_of(line: &[u8]) -> Option<Frame>
     ensures { result ≡ F.frame_of line.now }
 {
     if !all_hex(line) {
-        return Frame::NotFrame;
+        return None;
     }
     framed(line)
 }

@@ -6,9 +6,9 @@ use lib.IntN.{sub_ℕ}
 use mir.Syntax.{Width}
 use mir.Val.{bits, hbits}
 use mir.ValLaws.{pow-bits}
+use Rattle.std.specs.Prelude.{Some, None}
 use Rattle.promise.specs.Pick.{pick, both, not}
 use Rattle.word.specs.Extend.{low, signed, extend}
-use Rattle.word.specs.declared.Sum.TheVariants.{Fits, Overflow}
 use Rattle.word.specs.Sum.{fits?, checked, sum, difference, checked_sum, checked_difference}
 use Rattle.word.proofs.Registers.{sign}
 use Rattle.word.proofs.SumLaws.{sum_low, difference_low}
@@ -116,19 +116,19 @@ swapped false x y = refl
 -- a checked sum and a checked difference, by what the code's test says of the registers x, y and the result s
 module _ (w : Width) (a b : ℕ) (h : 2 ^ bits w ≤ 2 ^ 64) (x y s : ℕ) (t u : Bool) (ex : x ≡ extend w a) (ey : y ≡ extend w b) (p : t ≡ u) where
   module _ (es : s ≡ sum w a b) (e : t ≡ crossed (ltb x (2 ^ 63)) (ltb y (2 ^ 63)) (ltb s (2 ^ 63))) where
-    pub sum_checked : pick u Overflow (Fits s) ≡ checked_sum w a b
+    pub sum_checked : pick u None (Some s) ≡ checked_sum w a b
     unfolding checked_sum checked sum
     sum_checked =
-        sym (swapped u (Fits s) Overflow)
-        ∙ (λ i. pick (not ((sym p ∙ e) i)) (Fits (es i)) Overflow)
-        ∙ (λ i. pick (not (crossed (ltb (ex i) (2 ^ 63)) (ltb (ey i) (2 ^ 63)) (ltb (es i) (2 ^ 63)))) (Fits (sum w a b)) Overflow)
-        ∙ ap (λ (u : Bool). pick u (Fits (sum w a b)) Overflow) (sym (sum_fits w a b h))
+        sym (swapped u (Some s) None)
+        ∙ (λ i. pick (not ((sym p ∙ e) i)) (Some (es i)) None)
+        ∙ (λ i. pick (not (crossed (ltb (ex i) (2 ^ 63)) (ltb (ey i) (2 ^ 63)) (ltb (es i) (2 ^ 63)))) (Some (sum w a b)) None)
+        ∙ ap (λ (u : Bool). pick u (Some (sum w a b)) None) (sym (sum_fits w a b h))
 
   module _ (es : s ≡ difference w a b) (e : t ≡ crossed (ltb s (2 ^ 63)) (ltb y (2 ^ 63)) (ltb x (2 ^ 63))) where
-    pub difference_checked : pick u Overflow (Fits s) ≡ checked_difference w a b
+    pub difference_checked : pick u None (Some s) ≡ checked_difference w a b
     unfolding checked_difference checked difference
     difference_checked =
-        sym (swapped u (Fits s) Overflow)
-        ∙ (λ i. pick (not ((sym p ∙ e) i)) (Fits (es i)) Overflow)
-        ∙ (λ i. pick (not (crossed (ltb (es i) (2 ^ 63)) (ltb (ey i) (2 ^ 63)) (ltb (ex i) (2 ^ 63)))) (Fits (difference w a b)) Overflow)
-        ∙ ap (λ (u : Bool). pick u (Fits (difference w a b)) Overflow) (sym (difference_fits w a b h))
+        sym (swapped u (Some s) None)
+        ∙ (λ i. pick (not ((sym p ∙ e) i)) (Some (es i)) None)
+        ∙ (λ i. pick (not (crossed (ltb (es i) (2 ^ 63)) (ltb (ey i) (2 ^ 63)) (ltb (ex i) (2 ^ 63)))) (Some (difference w a b)) None)
+        ∙ ap (λ (u : Bool). pick u (Some (difference w a b)) None) (sym (difference_fits w a b h))

@@ -1,6 +1,5 @@
 -- Worked examples beside the bench cards, at the ends of the range: the definitions give these values by computation.
-use Rattle.std.specs.Prelude.{◌≡◌, ℕ, refl}
-use Rattle.word.specs.declared.Sum.TheVariants.{Fits}
+use Rattle.std.specs.Prelude.{◌≡◌, ℕ, refl, Some}
 use Rattle.word.specs.declared.HiLo.{HiLo}
 use Rattle.word.specs.Extend.{register}
 use Rattle.word.specs.Sum.{checked, checked_sum}
@@ -14,7 +13,7 @@ abbrev both : ℕ → ℕ → HiLo
 both h l = record { hi = h; lo = l }
 
 -- the greatest sum that does not overflow (A3)
-pub greatest_sum : add 0x7fff_fffe 1 ≡ Fits 0x7fff_ffff
+pub greatest_sum : add 0x7fff_fffe 1 ≡ Some 0x7fff_ffff
 unfolding checked_sum checked register
 greatest_sum = refl
 

@@ -1,8 +1,7 @@
 -- What each instruction computes, under the manual's name: the rules of the other modules at 32 bits (a word) or 64 (a doubleword).
-use Rattle.std.specs.Prelude.{ℕ, ◌+◌, ◌%◌, Bool}
+use Rattle.std.specs.Prelude.{ℕ, ◌+◌, ◌%◌, Bool, Option}
 use Rattle.std.specs.Int.{w8, w16, w32, w64}
 use Rattle.promise.specs.Pick.{not}
-use Rattle.word.specs.declared.Sum.{Sum}
 use Rattle.word.specs.declared.HiLo.{HiLo}
 use Rattle.word.specs.Extend as Extend
 use Rattle.word.specs.Sum.{sum, difference, checked_sum, checked_difference}
@@ -44,16 +43,16 @@ abbrev pub dsubu : ℕ → ℕ → ℕ
 dsubu a b = difference w64 a b
 
 -- sums and differences that trap on overflow (A3); ADDI and DADDI are these of an extended immediate
-abbrev pub add : ℕ → ℕ → Sum
+abbrev pub add : ℕ → ℕ → Option ℕ
 add a b = checked_sum w32 a b
 
-abbrev pub sub : ℕ → ℕ → Sum
+abbrev pub sub : ℕ → ℕ → Option ℕ
 sub a b = checked_difference w32 a b
 
-abbrev pub dadd : ℕ → ℕ → Sum
+abbrev pub dadd : ℕ → ℕ → Option ℕ
 dadd a b = checked_sum w64 a b
 
-abbrev pub dsub : ℕ → ℕ → Sum
+abbrev pub dsub : ℕ → ℕ → Option ℕ
 dsub a b = checked_difference w64 a b
 
 -- logic, on whole registers

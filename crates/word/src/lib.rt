@@ -17,13 +17,6 @@ pub use reading::{extend, extend_byte, extend_half, extend_immediate, low_word};
 pub use shifts::{dsll, dsll32, dsra, dsra32, dsrl, dsrl32, sll, sra, srl};
 pub use sums::{add, addu, dadd, daddu, dsub, dsubu, sub, subu};
 
-// A sum or difference that is tested for overflow: its value, or none.
-#[derive(Clone, Copy)]
-pub enum Sum {
-    Fits(u64),
-    Overflow,
-}
-
 // What goes to HI and LO.
 #[derive(Clone, Copy)]
 pub struct HiLo {

@@ -3,7 +3,6 @@ ghost use Rattle.std.specs.Prelude.{◌≡◌, ◌^◌, nat_lt};
 ghost use Rattle.promise.specs.Pick.{pick, both, not};
 ghost use Rattle.word.specs.Word as Word;
 
-use crate::Sum;
 use crate::reading::extend;
 
 // ADDU: the sum of two words, wrapped.
@@ -51,45 +50,45 @@ fn crosses(a: u64, b: u64, s: u64) -> bool
 }
 
 // ADD: the sum of two words, or overflow.
-pub fn add(a: u64, b: u64) -> Sum
+pub fn add(a: u64, b: u64) -> Option<u64>
     ensures { result ≡ Word.add a b }
 {
     let s = addu(a, b);
     if crosses(extend(a), extend(b), s) {
-        return Sum::Overflow;
+        return None;
     }
-    Sum::Fits(s)
+    Some(s)
 }
 
 // SUB: the difference of two words, or overflow.
-pub fn sub(a: u64, b: u64) -> Sum
+pub fn sub(a: u64, b: u64) -> Option<u64>
     ensures { result ≡ Word.sub a b }
 {
     let d = subu(a, b);
     if crosses(d, extend(b), extend(a)) {
-        return Sum::Overflow;
+        return None;
     }
-    Sum::Fits(d)
+    Some(d)
 }
 
 // DADD: the sum of two doublewords, or overflow.
-pub fn dadd(a: u64, b: u64) -> Sum
+pub fn dadd(a: u64, b: u64) -> Option<u64>
     ensures { result ≡ Word.dadd a b }
 {
     let s = daddu(a, b);
     if crosses(a, b, s) {
-        return Sum::Overflow;
+        return None;
     }
-    Sum::Fits(s)
+    Some(s)
 }
 
 // DSUB: the difference of two doublewords, or overflow.
-pub fn dsub(a: u64, b: u64) -> Sum
+pub fn dsub(a: u64, b: u64) -> Option<u64>
     ensures { result ≡ Word.dsub a b }
 {
     let d = dsubu(a, b);
     if crosses(d, b, a) {
-        return Sum::Overflow;
+        return None;
     }
-    Sum::Fits(d)
+    Some(d)
 }

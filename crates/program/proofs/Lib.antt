@@ -1,3 +1,2 @@
--- That the contract of a status says all, and what a caller knows of the bytes that it read.
+-- That the contract of a status says all.
 pub mod Once
-pub mod Reading

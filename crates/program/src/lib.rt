@@ -23,12 +23,9 @@ pub enum End {
     Refused,
 }
 
-// What was read: so many bytes, after which the input or the room ended; or reading failed.
+// Reading failed.
 #[derive(Clone, Copy)]
-pub enum Input {
-    Bytes(usize),
-    Failed,
-}
+pub struct ReadFailed;
 
 // The status that says so: 0 with a whole answer, 1 without one, 2 for wrong arguments, 3 where what was asked for is refused.
 pub fn status(end: End) -> i32
@@ -51,33 +48,28 @@ pub fn exit_code(end: End) -> ExitCode
     ExitCode::from(status(end) as u8)
 }
 
-// Reads until `buf` is full or the input ends; a read that fails, or would block, is Failed, whatever came before.
-pub fn read_whole<I: Read>(from: &mut I, buf: &mut [u8]) -> Input
+// Reads until `buf` is full or the input ends, and says how much; a read that fails, or would block, fails the whole, whatever came before.
+pub fn read_whole<I: Read>(from: &mut I, buf: &mut [u8]) -> Result<usize, ReadFailed>
     ensures { Within result buf.new }
 {
     let mut done = 0;
+    // Each read says how far it came: no index is counted here.
     while done < buf.len() {
-        let Ok(more) = from.read(&mut buf[done..]) else {
-            return Input::Failed;
-        };
+        let more = from.read(&mut buf[done..]).map_err(|_| ReadFailed)?;
         if more == 0 {
             break;
         }
         done += more;
     }
-    Input::Bytes(done)
+    Ok(done)
 }
 
-// Reads the file of a name to the start of `buf`; one that cannot be opened, or whose name is no text, is Failed.
-pub fn read_file<R: Files>(rt: &R, name: &[u8], buf: &mut [u8]) -> Input
+// Reads the file of a name to the start of `buf`; one that cannot be opened, or whose name is no text, fails.
+pub fn read_file<R: Files>(rt: &R, name: &[u8], buf: &mut [u8]) -> Result<usize, ReadFailed>
     ensures { Within result buf.new }
 {
-    let Ok(path) = str::from_utf8(name) else {
-        return Input::Failed;
-    };
-    let Ok(mut file) = fs::open(rt, path) else {
-        return Input::Failed;
-    };
+    let path = str::from_utf8(name).map_err(|_| ReadFailed)?;
+    let mut file = fs::open(rt, path).map_err(|_| ReadFailed)?;
     read_whole(&mut file, buf)
 }
 

@@ -1,16 +1,16 @@
 // The instruction of each class, with the fields that it uses.
-ghost use Rattle.std.specs.Prelude.{◌≡◌};
+ghost use Rattle.std.specs.Prelude.{◌≡◌, Ok};
 ghost use Rattle.decode.specs.Decode as D;
 ghost use Rattle.decode.specs.Maps.{Entry as E};
 ghost use Rattle.decode.specs.Numbers as N;
 
-use super::{Decoded, Instr, SpecialOp, fields, operations};
+use super::{Instr, SpecialOp, Undecoded, fields, operations};
 
 // The instruction with operation n of the class load.
-pub fn load(n: u8, w: u32) -> Decoded
+pub fn load(n: u8, w: u32) -> Result<Instr, Undecoded>
     ensures { result ≡ D.instruction (E.load (N.load_op n)) w }
 {
-    Decoded::Is(Instr::Load {
+    Ok(Instr::Load {
         op: operations::load_op(n),
         base: fields::rs(w),
         rt: fields::rt(w),
@@ -19,10 +19,10 @@ pub fn load(n: u8, w: u32) -> Decoded
 }
 
 // The instruction with operation n of the class store.
-pub fn store(n: u8, w: u32) -> Decoded
+pub fn store(n: u8, w: u32) -> Result<Instr, Undecoded>
     ensures { result ≡ D.instruction (E.store (N.store_op n)) w }
 {
-    Decoded::Is(Instr::Store {
+    Ok(Instr::Store {
         op: operations::store_op(n),
         base: fields::rs(w),
         rt: fields::rt(w),
@@ -31,10 +31,10 @@ pub fn store(n: u8, w: u32) -> Decoded
 }
 
 // The instruction with operation n of the class arithmetic.
-pub fn arithmetic(n: u8, w: u32) -> Decoded
+pub fn arithmetic(n: u8, w: u32) -> Result<Instr, Undecoded>
     ensures { result ≡ D.instruction (E.arithmetic (N.arithmetic_op n)) w }
 {
-    Decoded::Is(Instr::Arithmetic {
+    Ok(Instr::Arithmetic {
         op: operations::arithmetic_op(n),
         rs: fields::rs(w),
         rt: fields::rt(w),
@@ -43,10 +43,10 @@ pub fn arithmetic(n: u8, w: u32) -> Decoded
 }
 
 // The instruction with operation n of the class arithmetic immediate.
-pub fn arithmetic_immediate(n: u8, w: u32) -> Decoded
+pub fn arithmetic_immediate(n: u8, w: u32) -> Result<Instr, Undecoded>
     ensures { result ≡ D.instruction (E.arithmetic_i (N.arithmetic_immediate_op n)) w }
 {
-    Decoded::Is(Instr::ArithmeticImmediate {
+    Ok(Instr::ArithmeticImmediate {
         op: operations::arithmetic_immediate_op(n),
         rs: fields::rs(w),
         rt: fields::rt(w),
@@ -55,10 +55,10 @@ pub fn arithmetic_immediate(n: u8, w: u32) -> Decoded
 }
 
 // The instruction with operation n of the class logic.
-pub fn logic(n: u8, w: u32) -> Decoded
+pub fn logic(n: u8, w: u32) -> Result<Instr, Undecoded>
     ensures { result ≡ D.instruction (E.logic (N.logic_op n)) w }
 {
-    Decoded::Is(Instr::Logic {
+    Ok(Instr::Logic {
         op: operations::logic_op(n),
         rs: fields::rs(w),
         rt: fields::rt(w),
@@ -67,10 +67,10 @@ pub fn logic(n: u8, w: u32) -> Decoded
 }
 
 // The instruction with operation n of the class logic immediate.
-pub fn logic_immediate(n: u8, w: u32) -> Decoded
+pub fn logic_immediate(n: u8, w: u32) -> Result<Instr, Undecoded>
     ensures { result ≡ D.instruction (E.logic_i (N.logic_immediate_op n)) w }
 {
-    Decoded::Is(Instr::LogicImmediate {
+    Ok(Instr::LogicImmediate {
         op: operations::logic_immediate_op(n),
         rs: fields::rs(w),
         rt: fields::rt(w),
@@ -79,10 +79,10 @@ pub fn logic_immediate(n: u8, w: u32) -> Decoded
 }
 
 // The instruction with operation n of the class shift.
-pub fn shift(n: u8, w: u32) -> Decoded
+pub fn shift(n: u8, w: u32) -> Result<Instr, Undecoded>
     ensures { result ≡ D.instruction (E.shift (N.shift_op n)) w }
 {
-    Decoded::Is(Instr::Shift {
+    Ok(Instr::Shift {
         op: operations::shift_op(n),
         rt: fields::rt(w),
         rd: fields::rd(w),
@@ -91,10 +91,10 @@ pub fn shift(n: u8, w: u32) -> Decoded
 }
 
 // The instruction with operation n of the class shift variable.
-pub fn shift_variable(n: u8, w: u32) -> Decoded
+pub fn shift_variable(n: u8, w: u32) -> Result<Instr, Undecoded>
     ensures { result ≡ D.instruction (E.shift_v (N.shift_variable_op n)) w }
 {
-    Decoded::Is(Instr::ShiftVariable {
+    Ok(Instr::ShiftVariable {
         op: operations::shift_variable_op(n),
         rs: fields::rs(w),
         rt: fields::rt(w),
@@ -103,10 +103,10 @@ pub fn shift_variable(n: u8, w: u32) -> Decoded
 }
 
 // The instruction with operation n of the class multiply.
-pub fn multiply(n: u8, w: u32) -> Decoded
+pub fn multiply(n: u8, w: u32) -> Result<Instr, Undecoded>
     ensures { result ≡ D.instruction (E.multiply (N.multiply_op n)) w }
 {
-    Decoded::Is(Instr::Multiply {
+    Ok(Instr::Multiply {
         op: operations::multiply_op(n),
         rs: fields::rs(w),
         rt: fields::rt(w),
@@ -114,10 +114,10 @@ pub fn multiply(n: u8, w: u32) -> Decoded
 }
 
 // The instruction with operation n of the class hi lo.
-pub fn hi_lo(n: u8, w: u32) -> Decoded
+pub fn hi_lo(n: u8, w: u32) -> Result<Instr, Undecoded>
     ensures { result ≡ D.instruction (E.hi_lo (N.hi_lo_op n)) w }
 {
-    Decoded::Is(Instr::HiLo {
+    Ok(Instr::HiLo {
         op: operations::hi_lo_op(n),
         rs: fields::rs(w),
         rd: fields::rd(w),
@@ -125,10 +125,10 @@ pub fn hi_lo(n: u8, w: u32) -> Decoded
 }
 
 // The instruction with operation n of the class branch.
-pub fn branch(n: u8, w: u32) -> Decoded
+pub fn branch(n: u8, w: u32) -> Result<Instr, Undecoded>
     ensures { result ≡ D.instruction (E.branch (N.branch_op n)) w }
 {
-    Decoded::Is(Instr::Branch {
+    Ok(Instr::Branch {
         op: operations::branch_op(n),
         rs: fields::rs(w),
         rt: fields::rt(w),
@@ -137,20 +137,20 @@ pub fn branch(n: u8, w: u32) -> Decoded
 }
 
 // The instruction with operation n of the class jump.
-pub fn jump(n: u8, w: u32) -> Decoded
+pub fn jump(n: u8, w: u32) -> Result<Instr, Undecoded>
     ensures { result ≡ D.instruction (E.jump (N.jump_op n)) w }
 {
-    Decoded::Is(Instr::Jump {
+    Ok(Instr::Jump {
         op: operations::jump_op(n),
         target: fields::target(w),
     })
 }
 
 // The instruction with operation n of the class jump register.
-pub fn jump_register(n: u8, w: u32) -> Decoded
+pub fn jump_register(n: u8, w: u32) -> Result<Instr, Undecoded>
     ensures { result ≡ D.instruction (E.jump_r (N.jump_register_op n)) w }
 {
-    Decoded::Is(Instr::JumpRegister {
+    Ok(Instr::JumpRegister {
         op: operations::jump_register_op(n),
         rs: fields::rs(w),
         rd: fields::rd(w),
@@ -158,10 +158,10 @@ pub fn jump_register(n: u8, w: u32) -> Decoded
 }
 
 // The instruction with operation n of the class trap.
-pub fn trap(n: u8, w: u32) -> Decoded
+pub fn trap(n: u8, w: u32) -> Result<Instr, Undecoded>
     ensures { result ≡ D.instruction (E.trap (N.trap_op n)) w }
 {
-    Decoded::Is(Instr::Trap {
+    Ok(Instr::Trap {
         op: operations::trap_op(n),
         rs: fields::rs(w),
         rt: fields::rt(w),
@@ -169,10 +169,10 @@ pub fn trap(n: u8, w: u32) -> Decoded
 }
 
 // The instruction with operation n of the class trap immediate.
-pub fn trap_immediate(n: u8, w: u32) -> Decoded
+pub fn trap_immediate(n: u8, w: u32) -> Result<Instr, Undecoded>
     ensures { result ≡ D.instruction (E.trap_i (N.trap_immediate_op n)) w }
 {
-    Decoded::Is(Instr::TrapImmediate {
+    Ok(Instr::TrapImmediate {
         op: operations::trap_immediate_op(n),
         rs: fields::rs(w),
         immediate: fields::immediate(w),
@@ -180,8 +180,8 @@ pub fn trap_immediate(n: u8, w: u32) -> Decoded
 }
 
 // SYSCALL, BREAK or SYNC.
-pub fn special(op: SpecialOp) -> Decoded
-    ensures { result ≡ Decoded.Is (Instr.Special op) }
+pub fn special(op: SpecialOp) -> Result<Instr, Undecoded>
+    ensures { result ≡ Ok (Instr.Special op) }
 {
-    Decoded::Is(Instr::Special(op))
+    Ok(Instr::Special(op))
 }

@@ -3,26 +3,26 @@ ghost use Rattle.std.specs.Prelude.{◌≡◌};
 ghost use Rattle.decode.specs.Decode as D;
 ghost use Rattle.decode.specs.Numbers as N;
 
-use super::{Decoded, Instr, SpecialOp, classes, cop0};
+use super::{Instr, SpecialOp, Undecoded, classes, cop0};
 
 // The instruction of entry n of class 0.
-fn other(n: u8, w: u32) -> Decoded
+fn other(n: u8, w: u32) -> Result<Instr, Undecoded>
     ensures { result ≡ D.instruction (N.other n) w }
 {
     match n {
         0 => cop0::cop0(w),
-        1 => Decoded::Coprocessor(1),
-        2 => Decoded::Coprocessor(2),
-        3 => Decoded::Is(Instr::Cache),
+        1 => Err(Undecoded::Coprocessor(1)),
+        2 => Err(Undecoded::Coprocessor(2)),
+        3 => Ok(Instr::Cache),
         4 => classes::special(SpecialOp::SYSCALL),
         5 => classes::special(SpecialOp::BREAK),
         6 => classes::special(SpecialOp::SYNC),
-        _ => Decoded::Reserved,
+        _ => Err(Undecoded::Reserved),
     }
 }
 
 // The instruction of the entry that a table's number stands for.
-pub fn instruction(number: u8, w: u32) -> Decoded
+pub fn instruction(number: u8, w: u32) -> Result<Instr, Undecoded>
     ensures { result ≡ D.instruction (N.entry_of number) w }
 {
     let n = number % 16;

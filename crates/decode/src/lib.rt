@@ -303,10 +303,9 @@ pub enum Instr {
     Eret,
 }
 
-// What a word is: an instruction; a code of coprocessor 1 or 2; a code of COP0 that is none; or reserved.
+// Why a word is no instruction: a code of coprocessor 1 or 2; a code of COP0 that is none; or reserved.
 #[derive(Clone, Copy)]
-pub enum Decoded {
-    Is(Instr),
+pub enum Undecoded {
     Coprocessor(u8),
     ReservedCop0,
     Reserved,
@@ -327,7 +326,7 @@ fn entry_number(w: u32) -> u8
 }
 
 // What a word is.
-pub fn decode(w: u32) -> Decoded
+pub fn decode(w: u32) -> Result<Instr, Undecoded>
     ensures { result ≡ D.decode w }
 {
     instructions::instruction(entry_number(w), w)

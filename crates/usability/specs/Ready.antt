@@ -1,12 +1,12 @@
 -- Whether the step may go on with a word once it is decoded: coprocessor unusable, then reserved, then stop 17 (S6, N19).
-use Rattle.std.specs.Prelude.{Bool, true, false}
+use Rattle.std.specs.Prelude.{Bool, true, false, Result, Ok, Err}
 use Rattle.promise.specs.Pick.{pick, both, not}
 use Rattle.decode.specs.declared.Instr.{Instr}
 use Rattle.decode.specs.declared.Instr.TheVariants.{Load, Store, Arithmetic, ArithmeticImmediate, Logic, LogicImmediate, Shift, ShiftVariable, Multiply, HiLo, Branch, Jump, JumpRegister, Trap, TrapImmediate, Special, Cache, Move, Tlb, Eret}
-use Rattle.decode.specs.declared.Decoded.{Decoded}
-use Rattle.decode.specs.declared.Decoded.TheVariants.{Is, Coprocessor, ReservedCop0, Reserved}
-use Rattle.usability.specs.declared.Ready.{Ready}
-use Rattle.usability.specs.declared.Ready.TheVariants.{Go, Unusable, InSlot}
+use Rattle.decode.specs.declared.Undecoded.{Undecoded}
+use Rattle.decode.specs.declared.Undecoded.TheVariants.{Coprocessor, ReservedCop0, Reserved}
+use Rattle.usability.specs.declared.Unready.{Unready}
+use Rattle.usability.specs.declared.Unready.TheVariants.{Unusable, InSlot}
 use Rattle.usability.specs.Doubleword.{is_double}
 
 -- a CP0 instruction, or CACHE (T21)
@@ -60,24 +60,24 @@ abbrev pub locked : Bool → Bool → Bool
 locked user cu0 = both user (not cu0)
 
 -- the last check: a branch, jump or ERET in a slot is stop 17 (N11, N19)
-unfoldable pub in_place : Bool → Instr → Ready
-in_place slot i = pick (both slot (is_branch i)) InSlot (Go i)
+unfoldable pub in_place : Bool → Instr → Result Instr Unready
+in_place slot i = pick (both slot (is_branch i)) (Err InSlot) (Ok i)
 
 -- before it: a doubleword instruction or LWU in User mode is reserved (D11)
-unfoldable pub allowed : Bool → Bool → Instr → Ready
-allowed user slot i = pick (both user (is_double i)) Ready.Reserved (in_place slot i)
+unfoldable pub allowed : Bool → Bool → Instr → Result Instr Unready
+allowed user slot i = pick (both user (is_double i)) (Err Unready.Reserved) (in_place slot i)
 
 -- first of all: a CP0 instruction or CACHE where CP0 is locked is unusable, with unit 0 (S6, T21)
-unfoldable pub usable : Bool → Bool → Bool → Instr → Ready
-usable user cu0 slot i = pick (both (locked user cu0) (is_cp0 i)) (Unusable 0) (allowed user slot i)
+unfoldable pub usable : Bool → Bool → Bool → Instr → Result Instr Unready
+usable user cu0 slot i = pick (both (locked user cu0) (is_cp0 i)) (Err (Unusable 0)) (allowed user slot i)
 
 -- a COP0 code that is none: unusable where CP0 is locked, else reserved (S6, S16, T21)
-unfoldable pub reserved_cop0 : Bool → Bool → Ready
-reserved_cop0 user cu0 = pick (locked user cu0) (Unusable 0) Ready.Reserved
+unfoldable pub reserved_cop0 : Bool → Bool → Unready
+reserved_cop0 user cu0 = pick (locked user cu0) (Unusable 0) Unready.Reserved
 
 -- any word, with User mode, CU0 and a pending slot: a code of CP1 or CP2 is unusable always (S6, S14, S15)
-unfoldable pub ready : Bool → Bool → Bool → Decoded → Ready
-ready user cu0 slot (Is i) = usable user cu0 slot i
-ready user cu0 slot (Coprocessor unit) = Unusable unit
-ready user cu0 slot ReservedCop0 = reserved_cop0 user cu0
-ready user cu0 slot Reserved = Ready.Reserved
+unfoldable pub ready : Bool → Bool → Bool → Result Instr Undecoded → Result Instr Unready
+ready user cu0 slot (Ok i) = usable user cu0 slot i
+ready user cu0 slot (Err (Coprocessor unit)) = Err (Unusable unit)
+ready user cu0 slot (Err ReservedCop0) = Err (reserved_cop0 user cu0)
+ready user cu0 slot (Err Reserved) = Err Unready.Reserved

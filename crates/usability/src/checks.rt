@@ -2,8 +2,8 @@
 ghost use Rattle.std.specs.Prelude.{◌≡◌};
 ghost use Rattle.usability.specs.Ready as U;
 
-use crate::{Ready, doubleword};
-use decode::{Decoded, Instr};
+use crate::{Unready, doubleword};
+use decode::{Instr, Undecoded};
 
 // A CP0 instruction, or CACHE.
 pub fn is_cp0(i: Instr) -> bool
@@ -57,68 +57,64 @@ pub fn is_branch(i: Instr) -> bool
 }
 
 // Stop 17, the last check: a branch in a slot.
-fn in_place(slot: bool, i: Instr) -> Ready
+#[tactic(auto, unfolding(crate::specs::Ready::in_place))]
+fn in_place(slot: bool, i: Instr) -> Result<Instr, Unready>
     ensures { result ≡ U.in_place slot i }
 {
-    if slot {
-        if is_branch(i) {
-            return Ready::InSlot;
-        }
-        return Ready::Go(i);
+    if slot && is_branch(i) {
+        return Err(Unready::InSlot);
     }
-    Ready::Go(i)
+    Ok(i)
 }
 
 // Reserved Instruction, before it: a doubleword instruction in User mode.
-fn allowed(user: bool, slot: bool, i: Instr) -> Ready
+#[tactic(auto, unfolding(crate::specs::Ready::allowed))]
+fn allowed(user: bool, slot: bool, i: Instr) -> Result<Instr, Unready>
     ensures { result ≡ U.allowed user slot i }
 {
-    if user {
-        if doubleword::is_double(i) {
-            return Ready::Reserved;
-        }
-        return in_place(slot, i);
+    if user && doubleword::is_double(i) {
+        return Err(Unready::Reserved);
     }
     in_place(slot, i)
 }
 
 // Coprocessor Unusable, the first check: CP0 or CACHE where CP0 is locked.
-fn usable(user: bool, cu0: bool, slot: bool, i: Instr) -> Ready
+#[tactic(auto, unfolding(crate::specs::Ready::usable))]
+fn usable(user: bool, cu0: bool, slot: bool, i: Instr) -> Result<Instr, Unready>
     ensures { result ≡ U.usable user cu0 slot i }
 {
-    if user {
-        if cu0 {
-            return allowed(user, slot, i);
-        }
-        if is_cp0(i) {
-            return Ready::Unusable(0);
-        }
-        return allowed(user, slot, i);
+    if user && !cu0 && is_cp0(i) {
+        return Err(Unready::Unusable(0));
     }
     allowed(user, slot, i)
 }
 
 // A COP0 code that is none.
-fn reserved_cop0(user: bool, cu0: bool) -> Ready
+#[tactic(auto, unfolding(crate::specs::Ready::reserved_cop0))]
+fn reserved_cop0(user: bool, cu0: bool) -> Unready
     ensures { result ≡ U.reserved_cop0 user cu0 }
 {
-    if user {
-        if cu0 {
-            return Ready::Reserved;
-        }
-        return Ready::Unusable(0);
+    if user && !cu0 {
+        Unready::Unusable(0)
+    } else {
+        Unready::Reserved
     }
-    Ready::Reserved
 }
 
 // Any word, with User mode, CU0 and a pending slot.
-pub fn ready(user: bool, cu0: bool, slot: bool, d: Decoded) -> Ready
+#[tactic(auto, unfolding(crate::specs::Ready::ready))]
+pub fn ready(
+    user: bool,
+    cu0: bool,
+    slot: bool,
+    d: Result<Instr, Undecoded>,
+) -> Result<Instr, Unready>
     ensures { result ≡ U.ready user cu0 slot d }
 {
     match d {
-        Decoded::Is(i) => usable(user, cu0, slot, i),
-        Decoded::Coprocessor(unit) => Ready::Unusable(unit),
-        Decoded::ReservedCop0 => reserved_cop0(user, cu0),
-        Decoded::Reserved => Ready::Reserved,
+        Ok(i) => usable(user, cu0, slot, i),
+        Err(Undecoded::Coprocessor(unit)) => Err(Unready::Unusable(unit)),
+        Err(Undecoded::ReservedCop0) => Err(reserved_cop0(user, cu0)),
+        Err(Undecoded::Reserved) => Err(Unready::Reserved),
     }
 }

@@ -4,12 +4,9 @@
 pub mod checks; // the checks, in their order
 mod doubleword; // the doubleword instructions
 
-use decode::Instr;
-
-// Whether the step may go on to execute it: the instruction; Coprocessor Unusable with its unit; Reserved Instruction; stop 17.
+// Why the step may not go on to execute it: Coprocessor Unusable with its unit; Reserved Instruction; stop 17.
 #[derive(Clone, Copy)]
-pub enum Ready {
-    Go(Instr),
+pub enum Unready {
     Unusable(u8),
     Reserved,
     InSlot,

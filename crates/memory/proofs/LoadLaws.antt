@@ -1,13 +1,12 @@
 -- A load of the place that a store wrote gives the value back.
 use Prim.Native.Nat.{ℕ, zero, suc, ◌+◌, ◌-◌, ◌*◌, ◌/◌, ◌%◌, ◌^◌, ◌<◌}
 use native.Mathlib.Omega.{arith}
-use Rattle.std.specs.Prelude.{◌≡◌, true, length, get_or}
+use Rattle.std.specs.Prelude.{◌≡◌, true, length, get_or, Some}
 use Rattle.std.proofs.Math.Path.{sym, ap}
 use Rattle.std.proofs.Common.{◌∙◌, lit<}
 use mathlib.Core.List.{List}
-use Rattle.memory.specs.declared.PAddr.{PAddr}
 use Rattle.memory.specs.declared.Eight.TheVariants.{Ram}
-use Rattle.memory.specs.declared.Store.TheVariants.{Write}
+use Rattle.memory.specs.declared.Store.{Store}
 use Rattle.memory.specs.Bytes.{byte, eight_of}
 use Rattle.memory.specs.BytesLaws.{byte_shift, same_bytes}
 use Rattle.memory.specs.Memory.{eight_at, part, read}
@@ -44,43 +43,43 @@ pub byte_eight : (l : List ℕ) (k : ℕ) → ((i : ℕ) → i < 8 → get_or l 
 byte_eight l k h lt =
     byte_at l (h 0 (lit< tt)) (h 1 (lit< tt)) (h 2 (lit< tt)) (h 3 (lit< tt)) (h 4 (lit< tt)) (h 5 (lit< tt)) (h 6 (lit< tt)) (h 7 (lit< tt)) k lt
 
-module _ (ram rom : List ℕ) (p : PAddr) (size value : ℕ) (t : lands ram p size ≡ true) (b : Bytes ram) where
+module _ (ram rom : List ℕ) (s : Store) (t : lands ram s ≡ true) (b : Bytes ram) where
   after : List ℕ
-  after = put_bytes ram (Write p size value)
+  after = put_bytes ram (Some s)
 
-  there : p.0 / 8 < length after / 8
+  there : s.to.0 / 8 < length after / 8
   unfolding after
-  there = rw (length_put ram (Write p size value)) (landing ram p size t).0
+  there = rw (length_put ram (Some s)) (landing ram s t).0
 
   -- byte k of what is then read around p
-  byte_after : (k : ℕ) → k < 8 → byte (eight_of (part after rom p)) k ≡ get_or after (p.0 / 8 * 8 + (7 - k)) 0
+  byte_after : (k : ℕ) → k < 8 → byte (eight_of (part after rom s.to)) k ≡ get_or after (s.to.0 / 8 * 8 + (7 - k)) 0
   unfolding after
   byte_after k h =
-      ap (λ (l : List ℕ). byte (eight_of l) k) (part_ram after rom p there)
-      ∙ byte_eight (eight_at after p.0) k (λ i l. rw (eight_byte after p.0 i l) (bytes_put ram (Write p size value) b _)) h
-      ∙ eight_byte after p.0 (7 - k) (omega arith)
+      ap (λ (l : List ℕ). byte (eight_of l) k) (part_ram after rom s.to there)
+      ∙ byte_eight (eight_at after s.to.0) k (λ i l. rw (eight_byte after s.to.0 i l) (bytes_put ram (Some s) b _)) h
+      ∙ eight_byte after s.to.0 (7 - k) (omega arith)
 
-  span_after : span size (eight_of (part after rom p)) (p.0 % 8) ≡ value % 2 ^ (8 * size)
+  span_after : span s.size (eight_of (part after rom s.to)) (s.to.0 % 8) ≡ s.value % 2 ^ (8 * s.size)
   unfolding after span
-  span_after = same_bytes size _ value each
+  span_after = same_bytes s.size _ s.value each
     where
       m : ℕ
-      m = 8 - (p.0 % 8 + size)
+      m = 8 - (s.to.0 % 8 + s.size)
 
-      each : (i : ℕ) → i < size → byte (eight_of (part after rom p) / 2 ^ (8 * m)) i ≡ byte value i
+      each : (i : ℕ) → i < s.size → byte (eight_of (part after rom s.to) / 2 ^ (8 * m)) i ≡ byte s.value i
       each i h =
-          let g = (landing ram p size t).2 in
-          let e : p.0 / 8 * 8 + (7 - (m + i)) ≡ p.0 + (size - 1 - i) = omega arith in
-          let f : size - 1 - (size - 1 - i) ≡ i = omega arith in
-          byte_shift (eight_of (part after rom p)) m i
+          let g = (landing ram s t).2 in
+          let e : s.to.0 / 8 * 8 + (7 - (m + i)) ≡ s.to.0 + (s.size - 1 - i) = omega arith in
+          let f : s.size - 1 - (s.size - 1 - i) ≡ i = omega arith in
+          byte_shift (eight_of (part after rom s.to)) m i
           ∙ byte_after (m + i) (omega arith)
           ∙ ap (λ (k : ℕ). get_or after k 0) e
-          ∙ put_byte ram p size value t (size - 1 - i) (omega arith)
-          ∙ ap (byte value) f
+          ∙ put_byte ram s t (s.size - 1 - i) (omega arith)
+          ∙ ap (byte s.value) f
 
-  -- after a store that lands at an aligned place, that place is read from RAM and holds the value's low `size` bytes
+  -- after a store that lands at an aligned place, that place is read from RAM and holds the value's low `s.size` bytes
   pub load_after_store :
-      p.0 % 8 / size * size ≡ p.0 % 8
-      → (n : ℕ) × (read (put_bytes ram (Write p size value)) rom p ≡ Ram n) × (field size n p ≡ value % 2 ^ (8 * size))
+      s.to.0 % 8 / s.size * s.size ≡ s.to.0 % 8
+      → (n : ℕ) × (read (put_bytes ram (Some s)) rom s.to ≡ Some (Ram n)) × (field s.size n s.to ≡ s.value % 2 ^ (8 * s.size))
   unfolding after
-  load_after_store e = (eight_of (part after rom p), sym (read_ram after rom p there), ap (span size (eight_of (part after rom p))) e ∙ span_after)
+  load_after_store e = (eight_of (part after rom s.to), sym (read_ram after rom s.to there), ap (span s.size (eight_of (part after rom s.to))) e ∙ span_after)

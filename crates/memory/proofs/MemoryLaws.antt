@@ -1,7 +1,7 @@
 -- Laws of reading: by case of whose the address is, and on which bytes a read depends.
 use Prim.Native.Nat.{ℕ, ◌+◌, ◌-◌, ◌*◌, ◌/◌, ◌^◌, ◌≤◌, ◌<◌}
 use Rattle.std.proofs.Common.{arith, sym, ◌∙◌, ap₂, length-take, length-drop, ext_get_or, get_or-take, get_or-drop, lt-ltb, le-ltb, le-leb, leb-true, ltb-true}
-use Rattle.std.specs.Prelude.{◌≡◌, get_or, drop}
+use Rattle.std.specs.Prelude.{◌≡◌, get_or, drop, Some, None}
 use Rattle.std.proofs.Math.Path.{refl, ap}
 use mathlib.Core.List.{List, []}
 use Rattle.std.proofs.Math.Bool.{Bool, true, false}
@@ -9,7 +9,7 @@ use Rattle.std.proofs.Math.Dec.{leb, ltb}
 use Rattle.std.proofs.Math.ListN.{length}
 use Rattle.promise.specs.Pick.{pick, both}
 use Rattle.memory.specs.declared.PAddr.{PAddr}
-use Rattle.memory.specs.declared.Eight.TheVariants.{Ram, Rom, Missing}
+use Rattle.memory.specs.declared.Eight.TheVariants.{Ram, Rom}
 use Rattle.memory.specs.Bytes.{eight_of}
 use Rattle.memory.specs.Memory.{rom_base, in_ram, in_rom, eight_at, part, read}
 
@@ -26,7 +26,7 @@ module _ (ram rom : List ℕ) (p : PAddr) where
   unfolding part
   part_ram h = rw (lt-ltb _ _ h)
 
-  pub read_ram : p.0 / 8 < length ram / 8 → Ram (eight_of (part ram rom p)) ≡ read ram rom p
+  pub read_ram : p.0 / 8 < length ram / 8 → Some (Ram (eight_of (part ram rom p))) ≡ read ram rom p
   unfolding read
   read_ram h = rw (lt-ltb _ _ h)
 
@@ -35,22 +35,22 @@ module _ (ram rom : List ℕ) (p : PAddr) where
   part_none e f = rw (e, f)
 
   -- what is no RAM and has eight bytes is ROM
-  pub read_rom : length ram / 8 ≤ p.0 / 8 → 8 ≤ length (part ram rom p) → Rom (eight_of (part ram rom p)) ≡ read ram rom p
+  pub read_rom : length ram / 8 ≤ p.0 / 8 → 8 ≤ length (part ram rom p) → Some (Rom (eight_of (part ram rom p))) ≡ read ram rom p
   unfolding read
   read_rom h l = rw (le-ltb _ _ h) (go (in_rom rom p) refl)
     where
-      go : (b : Bool) → in_rom rom p ≡ b → Rom (eight_of (part ram rom p)) ≡ pick b (Rom (eight_of (part ram rom p))) Missing
+      go : (b : Bool) → in_rom rom p ≡ b → Some (Rom (eight_of (part ram rom p))) ≡ pick b (Some (Rom (eight_of (part ram rom p)))) None
       go true e = refl
       go false e =
           let y : ⊥ = omega (arith, ap length (part_none (le-ltb _ _ h) e)) in
           absurd y
 
   -- what has no eight bytes is missing
-  pub read_missing : length (part ram rom p) < 8 → Missing ≡ read ram rom p
+  pub read_missing : length (part ram rom p) < 8 → None ≡ read ram rom p
   unfolding part read
   read_missing l = go (in_ram ram p) refl
     where
-      rom_too : (b : Bool) → leb rom_base p.0 ≡ b → (d : Bool) → ltb ((p.0 - rom_base) / 8) (length rom / 8) ≡ d → in_ram ram p ≡ false → Missing ≡ read ram rom p
+      rom_too : (b : Bool) → leb rom_base p.0 ≡ b → (d : Bool) → ltb ((p.0 - rom_base) / 8) (length rom / 8) ≡ d → in_ram ram p ≡ false → None ≡ read ram rom p
       rom_too false e d f t = rw (t, e)
       rom_too true e false f t = rw (t, e, f)
       rom_too true e true f t =
@@ -58,7 +58,7 @@ module _ (ram rom : List ℕ) (p : PAddr) where
           let y : ⊥ = omega (arith, ap length z, eight_long rom (p.0 - rom_base) (ltb-true _ _ f)) in
           absurd y
 
-      go : (b : Bool) → in_ram ram p ≡ b → Missing ≡ read ram rom p
+      go : (b : Bool) → in_ram ram p ≡ b → None ≡ read ram rom p
       go true e =
           let z : part ram rom p ≡ eight_at ram p.0 = rw e in
           let y : ⊥ = omega (arith, ap length z, eight_long ram p.0 (ltb-true _ _ e)) in

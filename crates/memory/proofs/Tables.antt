@@ -3,6 +3,7 @@
 use Prim.Native.Nat.{ℕ}
 use mathlib.Core.Path.{◌≡◌, refl}
 use mathlib.Core.List.{List, [], ◌∷◌, map}
+use Rattle.std.specs.Prelude.{Some}
 use Rattle.memory.specs.declared.PAddr.{PAddr}
 use Rattle.memory.specs.declared.Store.{Store}
 use Rattle.memory.specs.Bytes.{byte, bytes_of, eight_of, with_bytes}
@@ -27,7 +28,7 @@ loads load = each (λ (p : PAddr). load memory p register)
 
 -- the eight bytes of memory after a store
 abbrev stores : (PAddr → ℕ → Store) → List ℕ
-stores store = each (λ (p : PAddr). eight_of (put_bytes (bytes_of 8 memory) (store p register)))
+stores store = each (λ (p : PAddr). eight_of (put_bytes (bytes_of 8 memory) (Some (store p register))))
 
 pub lwl_table :
     loads lwl

@@ -1,10 +1,10 @@
 -- Memory: RAM from physical 0 and ROM from 1FC00000, read as the eight aligned bytes that hold an address.
-use Rattle.std.specs.Prelude.{ℕ, ◌+◌, ◌-◌, ◌*◌, ◌/◌, List, [], Bool, leb, ltb, length, take, drop}
+use Rattle.std.specs.Prelude.{ℕ, ◌+◌, ◌-◌, ◌*◌, ◌/◌, List, [], Bool, leb, ltb, length, take, drop, Option, Some, None}
 use Rattle.promise.specs.Pick.{pick, both}
 use Rattle.memory.specs.Bytes.{eight_of}
 use Rattle.memory.specs.declared.PAddr.{PAddr}
 use Rattle.memory.specs.declared.Eight.{Eight}
-use Rattle.memory.specs.declared.Eight.TheVariants.{Ram, Rom, Missing}
+use Rattle.memory.specs.declared.Eight.TheVariants.{Ram, Rom}
 
 -- where ROM starts (D8)
 abbrev pub rom_base : ℕ
@@ -37,6 +37,6 @@ place ramAt romAt ram rom p =
     (pick (in_rom rom p) (further romAt ((p.0 - rom_base) / 8 * 8)) (further ramAt 0))
 
 -- the part as one number, and whose it is: all that a step sees of memory (D8, D9, D10)
-unfoldable pub read : List ℕ → List ℕ → PAddr → Eight
+unfoldable pub read : List ℕ → List ℕ → PAddr → Option Eight
 read ram rom p =
-    pick (in_ram ram p) (Ram (eight_of (part ram rom p))) (pick (in_rom rom p) (Rom (eight_of (part ram rom p))) Missing)
+    pick (in_ram ram p) (Some (Ram (eight_of (part ram rom p)))) (pick (in_rom rom p) (Some (Rom (eight_of (part ram rom p)))) None)

@@ -1,5 +1,5 @@
 -- Laws of stores: which bytes a store sets, what it leaves as it was, and what it depends on.
-use Rattle.std.specs.Prelude.{ℕ, zero, suc, ◌+◌, ◌-◌, ◌/◌, ◌%◌, ◌≤◌, ◌<◌, ◌≡◌, List, [], ◌∷◌, Bool, ◌≢◌, length, set, leb}
+use Rattle.std.specs.Prelude.{ℕ, zero, suc, ◌+◌, ◌-◌, ◌/◌, ◌%◌, ◌≤◌, ◌<◌, ◌≡◌, List, [], ◌∷◌, Bool, ◌≢◌, length, set, leb, Option, Some, None}
 use Rattle.std.proofs.Math.Decide.{ℕ_discrete, dec_lt}
 use Rattle.std.proofs.Common.{arith, sym, ◌∙◌, ap, length-set, get_or-set_same, get_or-set_other, ltb-true, leb-true}
 use Rattle.std.proofs.Math.Path.{refl}
@@ -8,9 +8,7 @@ use Rattle.std.proofs.Math.ListN.{get_or, get_or-eq_default}
 use Rattle.std.proofs.lemmas.List.Edits.{sets}
 use Rattle.std.proofs.Math.Seq.{length-sets}
 use Rattle.promise.specs.Pick.{pick, both}
-use Rattle.memory.specs.declared.PAddr.{PAddr}
 use Rattle.memory.specs.declared.Store.{Store}
-use Rattle.memory.specs.declared.Store.TheVariants.{Nowhere, Write}
 use Rattle.memory.specs.Bytes.{byte, bytes_of}
 use Rattle.memory.specs.BytesLaws.{byte_lt}
 use Rattle.memory.specs.Memory.{in_ram}
@@ -76,39 +74,39 @@ sets_bytes l i zero x b = b
 sets_bytes l i (suc n) x b = sets_bytes (set l i (byte x n)) (suc i) n x (set_bytes l i (byte x n) (byte_lt x n) b)
 
 -- RAM keeps its length
-pub length_put : (ram : List ℕ) (s : Store) → length (put_bytes ram s) ≡ length ram
+pub length_put : (ram : List ℕ) (s : Option Store) → length (put_bytes ram s) ≡ length ram
 unfolding put_bytes
-length_put ram Nowhere = refl
-length_put ram (Write to size value) = go (lands ram to size)
+length_put ram None = refl
+length_put ram (Some s) = go (lands ram s)
   where
-    go : (b : Bool) → length (pick b (sets ram to.0 (bytes_of size value)) ram) ≡ length ram
-    go true = length-sets ram to.0 (bytes_of size value)
+    go : (b : Bool) → length (pick b (sets ram s.to.0 (bytes_of s.size s.value)) ram) ≡ length ram
+    go true = length-sets ram s.to.0 (bytes_of s.size s.value)
     go false = refl
 
 -- and stays a list of bytes
-pub bytes_put : (ram : List ℕ) (s : Store) → Bytes ram → Bytes (put_bytes ram s)
+pub bytes_put : (ram : List ℕ) (s : Option Store) → Bytes ram → Bytes (put_bytes ram s)
 unfolding put_bytes
-bytes_put ram Nowhere b = b
-bytes_put ram (Write to size value) b = go (lands ram to size)
+bytes_put ram None b = b
+bytes_put ram (Some s) b = go (lands ram s)
   where
-    go : (t : Bool) → Bytes (pick t (sets ram to.0 (bytes_of size value)) ram)
-    go true = sets_bytes ram to.0 size value b
+    go : (t : Bool) → Bytes (pick t (sets ram s.to.0 (bytes_of s.size s.value)) ram)
+    go true = sets_bytes ram s.to.0 s.size s.value b
     go false = b
 
 -- two RAMs as long have the same answer
-pub answer_same : (ram ram' : List ℕ) (s : Store) → length ram ≡ length ram' → put_answer ram s ≡ put_answer ram' s
+pub answer_same : (ram ram' : List ℕ) (s : Option Store) → length ram ≡ length ram' → put_answer ram s ≡ put_answer ram' s
 unfolding put_answer
-answer_same ram ram' Nowhere e = refl
-answer_same ram ram' (Write to size value) e = rw e
+answer_same ram ram' None e = refl
+answer_same ram ram' (Some s) e = rw e
 
 -- and where they agree, they agree after the same store
-pub put_agree : (ram ram' : List ℕ) (s : Store) (k : ℕ) → length ram ≡ length ram' → get_or ram k 0 ≡ get_or ram' k 0 → get_or (put_bytes ram s) k 0 ≡ get_or (put_bytes ram' s) k 0
+pub put_agree : (ram ram' : List ℕ) (s : Option Store) (k : ℕ) → length ram ≡ length ram' → get_or ram k 0 ≡ get_or ram' k 0 → get_or (put_bytes ram s) k 0 ≡ get_or (put_bytes ram' s) k 0
 unfolding put_bytes
-put_agree ram ram' Nowhere k e h = h
-put_agree ram ram' (Write to size value) k e h = rw e (go (lands ram' to size))
+put_agree ram ram' None k e h = h
+put_agree ram ram' (Some s) k e h = rw e (go (lands ram' s))
   where
-    go : (b : Bool) → get_or (pick b (sets ram to.0 (bytes_of size value)) ram) k 0 ≡ get_or (pick b (sets ram' to.0 (bytes_of size value)) ram') k 0
-    go true = sets_agree ram ram' to.0 (bytes_of size value) k e h
+    go : (b : Bool) → get_or (pick b (sets ram s.to.0 (bytes_of s.size s.value)) ram) k 0 ≡ get_or (pick b (sets ram' s.to.0 (bytes_of s.size s.value)) ram') k 0
+    go true = sets_agree ram ram' s.to.0 (bytes_of s.size s.value) k e h
     go false = h
 
 both_true : (a b : Bool) → both a b ≡ true → (a ≡ true) × (b ≡ true)
@@ -117,30 +115,30 @@ both_true false b e = let z : ◌≡◌ {A = ℕ} 0 1 = cc in absurd (omega arit
 
 -- what it is to land
 pub landing :
-    (ram : List ℕ) (to : PAddr) (size : ℕ)
-    → lands ram to size ≡ true
-    → (to.0 / 8 < length ram / 8) × (1 ≤ size) × (to.0 % 8 + size ≤ 8)
-landing ram to size e =
-    let a = both_true (in_ram ram to) _ e in
-    let b = both_true (leb 1 size) _ a.1 in
+    (ram : List ℕ) (s : Store)
+    → lands ram s ≡ true
+    → (s.to.0 / 8 < length ram / 8) × (1 ≤ s.size) × (s.to.0 % 8 + s.size ≤ 8)
+landing ram s e =
+    let a = both_true (in_ram ram s.to) _ e in
+    let b = both_true (leb 1 s.size) _ a.1 in
     (ltb-true _ _ a.0, leb-true _ _ b.0, leb-true _ _ b.1)
 
-module _ (ram : List ℕ) (to : PAddr) (size value : ℕ) where
+module _ (ram : List ℕ) (s : Store) where
   -- a store leaves every byte outside its own
-  pub put_other : (k : ℕ) → ((j : ℕ) → j < size → k ≢ to.0 + j) → get_or (put_bytes ram (Write to size value)) k 0 ≡ get_or ram k 0
+  pub put_other : (k : ℕ) → ((j : ℕ) → j < s.size → k ≢ s.to.0 + j) → get_or (put_bytes ram (Some s)) k 0 ≡ get_or ram k 0
   unfolding put_bytes
-  put_other k h = go (lands ram to size)
+  put_other k h = go (lands ram s)
     where
-      go : (b : Bool) → get_or (pick b (sets ram to.0 (bytes_of size value)) ram) k 0 ≡ get_or ram k 0
-      go true = sets_other ram to.0 (bytes_of size value) k (λ j lt. h j (omega (arith, length_bytes size value)))
+      go : (b : Bool) → get_or (pick b (sets ram s.to.0 (bytes_of s.size s.value)) ram) k 0 ≡ get_or ram k 0
+      go true = sets_other ram s.to.0 (bytes_of s.size s.value) k (λ j lt. h j (omega (arith, length_bytes s.size s.value)))
       go false = refl
 
   -- where it lands, its bytes stand there
-  pub put_byte : lands ram to size ≡ true → (j : ℕ) → j < size → get_or (put_bytes ram (Write to size value)) (to.0 + j) 0 ≡ byte value (size - 1 - j)
+  pub put_byte : lands ram s ≡ true → (j : ℕ) → j < s.size → get_or (put_bytes ram (Some s)) (s.to.0 + j) 0 ≡ byte s.value (s.size - 1 - j)
   unfolding put_bytes
-  put_byte t j lt = rw t (sets_byte ram to.0 size value j (omega (arith, landing ram to size t)) lt)
+  put_byte t j lt = rw t (sets_byte ram s.to.0 s.size s.value j (omega (arith, landing ram s t)) lt)
 
   -- where it does not land, nothing changes
-  pub put_refused : lands ram to size ≡ false → put_bytes ram (Write to size value) ≡ ram
+  pub put_refused : lands ram s ≡ false → put_bytes ram (Some s) ≡ ram
   unfolding put_bytes
   put_refused t = rw t

@@ -17,27 +17,24 @@ pub use unaligned::{ldl, ldr, lwl, lwr};
 #[derive(Clone, Copy)]
 pub struct PAddr(pub u64);
 
-// The eight aligned bytes that hold an address as one number, the first byte on top: of RAM, of ROM, or there are none.
+// The eight aligned bytes that hold an address as one number, the first byte on top: of RAM or of ROM.
 #[derive(Clone, Copy)]
 pub enum Eight {
     Ram(u64),
     Rom(u64),
-    Missing,
 }
 
-// What goes out to memory: nothing, or the low `size` bytes of `value` from `to` on, the top one first.
+// What goes out to memory: the low `size` bytes of `value` from `to` on, the top one first.
 #[derive(Clone, Copy)]
-pub enum Store {
-    Nowhere,
-    Write { to: PAddr, size: u8, value: u64 },
+pub struct Store {
+    pub to: PAddr,
+    pub size: u8,
+    pub value: u64,
 }
 
-// What became of a store.
+// Nothing answers at the address of a store.
 #[derive(Clone, Copy)]
-pub enum Put {
-    Done,
-    BusError,
-}
+pub struct BusError;
 
 // Where ROM starts.
 const ROM_BASE: u64 = 0x1FC0_0000;
@@ -99,17 +96,17 @@ pub fn part<'a>(ram: &'a [u8], rom: &'a [u8], p: PAddr) -> &'a [u8]
     &ram[0..0]
 }
 
-// The same as one number, with whose it is.
-pub fn read<'a>(ram: &'a [u8], rom: &'a [u8], p: PAddr) -> Eight
+// The same as one number, with whose it is; elsewhere none.
+pub fn read<'a>(ram: &'a [u8], rom: &'a [u8], p: PAddr) -> Option<Eight>
     ensures { result ≡ M.read ram.now rom.now p }
 {
     let bytes = part(ram, rom, p);
     if bytes.len() < 8 {
-        return Eight::Missing;
+        return None;
     }
     let n = eight_of(bytes);
     if p.0 / 8 < (ram.len() / 8) as u64 {
-        return Eight::Ram(n);
+        return Some(Eight::Ram(n));
     }
-    Eight::Rom(n)
+    Some(Eight::Rom(n))
 }

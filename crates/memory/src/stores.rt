@@ -4,13 +4,13 @@ ghost use Rattle.std.proofs.lemmas.List.Edits.{sets};
 ghost use Rattle.memory.specs.Bytes as B;
 ghost use Rattle.memory.specs.Stores as S;
 
-use crate::{PAddr, Put, Store, byte};
+use crate::{BusError, PAddr, Store, byte};
 
 // SB: the low byte.
 pub fn sb(p: PAddr, value: u64) -> Store
     ensures { result ≡ S.sb p value }
 {
-    Store::Write {
+    Store {
         to: p,
         size: 1,
         value,
@@ -21,7 +21,7 @@ pub fn sb(p: PAddr, value: u64) -> Store
 pub fn sh(p: PAddr, value: u64) -> Store
     ensures { result ≡ S.sh p value }
 {
-    Store::Write {
+    Store {
         to: p,
         size: 2,
         value,
@@ -32,7 +32,7 @@ pub fn sh(p: PAddr, value: u64) -> Store
 pub fn sw(p: PAddr, value: u64) -> Store
     ensures { result ≡ S.sw p value }
 {
-    Store::Write {
+    Store {
         to: p,
         size: 4,
         value,
@@ -43,7 +43,7 @@ pub fn sw(p: PAddr, value: u64) -> Store
 pub fn sd(p: PAddr, value: u64) -> Store
     ensures { result ≡ S.sd p value }
 {
-    Store::Write {
+    Store {
         to: p,
         size: 8,
         value,
@@ -55,7 +55,7 @@ pub fn swl(p: PAddr, value: u64) -> Store
     ensures { result ≡ S.swl p value }
 {
     let b = p.0 % 4;
-    Store::Write {
+    Store {
         to: p,
         size: (4 - b) as u8,
         value: value >> (8 * b),
@@ -67,7 +67,7 @@ pub fn swr(p: PAddr, value: u64) -> Store
     ensures { result ≡ S.swr p value }
 {
     let at = p.0;
-    Store::Write {
+    Store {
         to: PAddr(at / 4 * 4),
         size: (at % 4 + 1) as u8,
         value,
@@ -79,7 +79,7 @@ pub fn sdl(p: PAddr, value: u64) -> Store
     ensures { result ≡ S.sdl p value }
 {
     let b = p.0 % 8;
-    Store::Write {
+    Store {
         to: p,
         size: (8 - b) as u8,
         value: value >> (8 * b),
@@ -91,11 +91,19 @@ pub fn sdr(p: PAddr, value: u64) -> Store
     ensures { result ≡ S.sdr p value }
 {
     let at = p.0;
-    Store::Write {
+    Store {
         to: PAddr(at / 8 * 8),
         size: (at % 8 + 1) as u8,
         value,
     }
+}
+
+// Whether a store lands: RAM has its place, and its bytes stay within the eight aligned ones.
+fn lands(ram: &[u8], s: Store) -> bool
+    ensures { result ≡ S.lands ram.now s }
+{
+    let at = s.to.0;
+    at / 8 < (ram.len() / 8) as u64 && 1 <= s.size && at % 8 + u64::from(s.size) <= 8
 }
 
 // The low `size` bytes of the value into a list from `to` on, the top one first.
@@ -112,27 +120,16 @@ fn put(ram: &mut [u8], to: usize, size: u64, value: u64)
     }
 }
 
-// A store to RAM. It lands where RAM has the place and its bytes stay within the eight aligned ones; else it is a bus error.
-pub fn put_bytes(ram: &mut [u8], s: Store) -> Put
+// A store to RAM, if there is one. Where it does not land, it is a bus error.
+pub fn put_bytes(ram: &mut [u8], s: Option<Store>) -> Result<(), BusError>
     ensures { (result ≡ S.put_answer ram.old s) × (ram.new ≡ S.put_bytes ram.old s) }
 {
-    match s {
-        Store::Nowhere => Put::Done,
-        Store::Write { to, size, value } => {
-            let at = to.0;
-            let n = size as u64;
-            let k = (at / 8) as usize;
-            if ram.len() / 8 <= k {
-                return Put::BusError;
-            }
-            if n < 1 {
-                return Put::BusError;
-            }
-            if 8 < at % 8 + n {
-                return Put::BusError;
-            }
-            put(ram, at as usize, n, value);
-            Put::Done
-        }
+    let Some(s) = s else {
+        return Ok(());
+    };
+    if !lands(ram, s) {
+        return Err(BusError);
     }
+    put(ram, s.to.0 as usize, u64::from(s.size), s.value);
+    Ok(())
 }

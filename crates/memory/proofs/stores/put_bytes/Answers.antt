@@ -1,25 +1,16 @@
--- Each test of the code is a test of the definition, and `put` is its run of bytes.
-use mathlib.Core.Path.{refl}
-use borrow.Author.Tests.{lt-ltb, le-ltb, le-leb, lt-leb}
+-- The code asks what the definition asks, and `put` is its run of bytes.
+use Rattle.std.proofs.Common.{refl, sym, ◌∙◌}
 use Rattle.memory.specs.Stores.{put_bytes, put_answer}
 use Rattle.memory.proofs.stores.put_bytes.Goals as goal
 
-pub returns-then-ram-k : goal.returns-then-ram-k
+pub returns-in_default : goal.returns-in_default
 unfolding put_bytes put_answer
-returns-then-ram-k c = simp (c.in-Write.is, le-ltb _ _ c.if-ram-k.true) (refl, refl)
+returns-in_default c = simp c.in_default.is (refl, refl)
 
-pub returns-then-n-lt1 : goal.returns-then-n-lt1
+pub returns-then-not-lands : goal.returns-then-not-lands
 unfolding put_bytes put_answer
-returns-then-n-lt1 c = simp (c.in-Write.is, lt-ltb _ _ c.if-ram-k.false, lt-leb _ _ c.if-n-lt1.true) (refl, refl)
+returns-then-not-lands c = simp (c.in-Some.is, sym c.lands.ensures ∙ c.if-not-lands.true) (refl, refl)
 
-pub returns-then-at-n-gt8 : goal.returns-then-at-n-gt8
+pub returns : goal.returns
 unfolding put_bytes put_answer
-returns-then-at-n-gt8 c = simp (c.in-Write.is, lt-ltb _ _ c.if-ram-k.false, le-leb _ _ c.if-n-lt1.false, lt-leb _ _ c.if-at-n-gt8.true) (refl, refl)
-
-pub returns-in-Nowhere : goal.returns-in-Nowhere
-unfolding put_bytes put_answer
-returns-in-Nowhere c = simp c.in-Nowhere.is (refl, refl)
-
-pub returns-else-at-n-gt8 : goal.returns-else-at-n-gt8
-unfolding put_bytes put_answer
-returns-else-at-n-gt8 c = simp (c.in-Write.is, lt-ltb _ _ c.if-ram-k.false, le-leb _ _ c.if-n-lt1.false, le-leb _ _ c.if-at-n-gt8.false) (refl, c.put.ensures)
+returns c = simp (c.in-Some.is, sym c.lands.ensures ∙ c.if-not-lands.false) (refl, rw c.from.ensures at c.put.ensures)

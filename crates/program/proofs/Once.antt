@@ -7,12 +7,16 @@ use Rattle.std.specs.declared.io.Eprint.{Ghosts}
 use Rattle.promise.specs.Unique.{Unique, same}
 use Rattle.program.proofs.exit_code.Kinds as exit_code-kinds
 use Rattle.program.proofs.exit_code.Reads as exit_code-reads
+use Rattle.program.proofs.hex_digit.Kinds as hex_digit-kinds
+use Rattle.program.proofs.hex_digit.Reads as hex_digit-reads
 use Rattle.program.proofs.misused.Kinds as misused-kinds
 use Rattle.program.proofs.misused.Reads as misused-reads
 use Rattle.program.proofs.refused.Kinds as refused-kinds
 use Rattle.program.proofs.refused.Reads as refused-reads
 use Rattle.program.proofs.status.Kinds as status-kinds
 use Rattle.program.proofs.status.Reads as status-reads
+use Rattle.program.proofs.two_hex_digits.Kinds as two_hex_digits-kinds
+use Rattle.program.proofs.two_hex_digits.Reads as two_hex_digits-reads
 use Rattle.program.proofs.unread.Kinds as unread-kinds
 use Rattle.program.proofs.unread.Reads as unread-reads
 use Rattle.program.proofs.unwritten.Kinds as unwritten-kinds
@@ -23,6 +27,12 @@ status_once κs a p z₁ z₂ ws₁ ws₂ h₁ h₂ = (same h₁ h₂, refl)
 
 pub exit_code_once : Unique exit_code-kinds.ps exit_code-kinds.r exit_code-reads.Pre exit_code-reads.Post
 exit_code_once κs a p z₁ z₂ ws₁ ws₂ h₁ h₂ = (λ i. record { status = same h₁.0 h₂.0 i }, refl)
+
+pub hex_digit_once : Unique hex_digit-kinds.ps hex_digit-kinds.r hex_digit-reads.Pre hex_digit-reads.Post
+hex_digit_once κs a p z₁ z₂ ws₁ ws₂ h₁ h₂ = (same h₁.0 h₂.0, refl)
+
+pub two_hex_digits_once : Unique two_hex_digits-kinds.ps two_hex_digits-kinds.r two_hex_digits-reads.Pre two_hex_digits-reads.Post
+two_hex_digits_once κs a p z₁ z₂ ws₁ ws₂ h₁ h₂ = (same h₁ h₂, refl)
 
 -- whatever the runtime is that says the line
 module _ (T : RattleType) (L : Laws T) (R : Ghosts T.Denot) (D : Dict) where

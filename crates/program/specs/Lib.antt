@@ -1,3 +1,4 @@
--- The status of an end, and what a reading may answer.
+-- The status of an end, what a reading may answer, and the digits of an argument.
+pub mod Digits
 pub mod Ends
 pub mod Within

@@ -1,8 +1,9 @@
 // How a program takes its whole input, gives its whole answer, and ends.
 #![tactic(auto)]
 
-ghost use Rattle.std.specs.Prelude.{◌≡◌, ◌≤◌, unsigned_abs};
+ghost use Rattle.std.specs.Prelude.{◌≡◌, ◌≤◌, ◌<◌, IfSome, unsigned_abs};
 ghost use Rattle.std.specs.Process.{exit_status};
+ghost use Rattle.program.specs.Digits as Rule;
 ghost use Rattle.program.specs.Ends.{status_of, end_of};
 ghost use Rattle.program.specs.Within.{Within};
 ghost use Rattle.program.specs.declared.End.TheVariants.{Unread, Unwritten, Misused, Refused};
@@ -33,8 +34,7 @@ pub fn status(end: End) -> i32
 {
     match end {
         End::Answered => 0,
-        End::Unread => 1,
-        End::Unwritten => 1,
+        End::Unread | End::Unwritten => 1,
         End::Misused => 2,
         End::Refused => 3,
     }
@@ -76,11 +76,7 @@ pub fn read_file<R: Files>(rt: &R, name: &[u8], buf: &mut [u8]) -> Result<usize,
 // Whether there is an argument i, the program's own name being 0.
 pub fn has_arg<R: Env>(rt: &R, i: usize) -> bool {
     let mut room = [0u8; 1];
-    match rt.arg(i, &mut room) {
-        Ok(_) => true,
-        Err(FillError::TooLong) => true,
-        Err(FillError::NotPresent) => false,
-    }
+    !matches!(rt.arg(i, &mut room), Err(FillError::NotPresent))
 }
 
 // How many arguments there are, the program's own name counted; no more than `most` are counted.
@@ -93,6 +89,25 @@ pub fn arg_count<R: Env>(rt: &R, most: usize) -> usize
         }
     }
     most
+}
+
+// The value of a lowercase hexadecimal digit; no other character has one.
+pub fn hex_digit(b: u8) -> Option<u8>
+    ensures value { result ≡ Rule.hex_digit b }
+    ensures bound { IfSome result (λ d. d < 16) }
+{
+    match b {
+        b'0'..=b'9' => Some(b - b'0'),
+        b'a'..=b'f' => Some(b - b'a' + 10),
+        _ => None,
+    }
+}
+
+// The number that two lowercase hexadecimal digits make.
+pub fn two_hex_digits(a: u8, b: u8) -> Option<u8>
+    ensures { result ≡ Rule.two_hex_digits a b }
+{
+    Some(hex_digit(a)? * 16 + hex_digit(b)?)
 }
 
 // Writes a whole answer to standard output and says how the program so ends; where it cannot, with a line.
@@ -141,9 +156,10 @@ fn end_of(written: bool) -> End
     ensures { result ≡ end_of written }
 {
     if written {
-        return End::Answered;
+        End::Answered
+    } else {
+        End::Unwritten
     }
-    End::Unwritten
 }
 
 // Says a line on standard error; where that fails nothing is left to say it on. Of a line that is no text each byte is said as a character.

@@ -9,13 +9,12 @@ use native.Mathlib.Omega.{arith}
 use borrow.Author.Tests.{leb-true, leb-false}
 use lib.Dec.{leb}
 use lib.ListN.{length}
-use Rattle.elf.specs.declared.Fault.{Fault}
 use Rattle.elf.specs.declared.Space.{Space}
 use Rattle.elf.specs.declared.Space.TheVariants.{User}
 use Rattle.elf.specs.Bytes.{byte, half, word}
 use Rattle.elf.specs.Header.{table, count, entry, header, loads}
 use Rattle.elf.specs.Home.{outside}
-use Rattle.elf.specs.Faults.{fault, overlaps, any_segment, file_fault, enters, program_fault}
+use Rattle.elf.specs.Faults.{Verdict, number_of, none, overlaps, any_segment, file_fault, enters, program_fault}
 use Rattle.elf.specs.Exact.{Headed, Tabled, IsSegment, Fine, First, Loadable, Enters, FileWhy, no_elf, cut_short, not_32_bit, not_big_endian, not_mips, not_linked, another_size, too_many, not_held, not_stored, more_in_file, too_large, leaves, shared, nothing, loadable, Why, refused, no_entry, accepted, Gives, Exact}
 use Rattle.elf.proofs.Laws.{never}
 use Rattle.elf.proofs.Sound.{or_none}
@@ -45,11 +44,11 @@ record Some (W : ℕ → ℕ → Type 0) : Type 0 where
   why : W number about
 
 -- where every case gives its number, and there is a case, a number is given just in its case
-just : (W : ℕ → ℕ → Type 0) (f : Fault) → ((n a : ℕ) → W n a → f ≡ fault n a) → Some W → (n a : ℕ) → Gives f n a ↔ W n a
-just W f give s n a =
+just : (W : ℕ → ℕ → Type 0) (v : Verdict) → ((n a : ℕ) → W n a → Gives v n a) → Some W → (n a : ℕ) → Gives v n a ↔ W n a
+just W v give s n a =
     let e = give s.number s.about s.why in (
-      λ g. subst (λ (k : ℕ). W k a) (sym (ap (λ (x : Fault). x.number) e) ∙ g.0) (subst (W s.number) (sym (ap (λ (x : Fault). x.about) e) ∙ g.1) s.why),
-      λ w. (ap (λ (x : Fault). x.number) (give n a w), ap (λ (x : Fault). x.about) (give n a w)),
+      λ g. subst (λ (k : ℕ). W k a) (sym e.0 ∙ g.0) (subst (W s.number) (sym e.1 ∙ g.1) s.why),
+      λ w. give n a w,
     )
 
 module _ (space : Space) (file : List ℕ) where
@@ -185,18 +184,18 @@ module _ (space : Space) (file : List ℕ) where
 
   -- ---- a file that is not refused can be loaded, and a program can be entered
 
-  pub file_loadable : (file_fault space file).number ≡ 0 → Loadable space file
-  file_loadable e = unrefused _ ((file_just 0 _).0 (e, refl))
+  pub file_loadable : file_fault space file ≡ none → Loadable space file
+  file_loadable e = unrefused _ ((file_just 0 _).0 (ap number_of e, refl))
 
   entered : (a : ℕ) → Why space file 0 a → Enters file
   entered a (refused l w) = absurd (omega arith)
   entered a (accepted k e) = e
 
-  pub program_enters : (program_fault space file).number ≡ 0 → Enters file
-  program_enters e = entered _ ((program_just 0 _).0 (e, refl))
+  pub program_enters : program_fault space file ≡ none → Enters file
+  program_enters e = entered _ ((program_just 0 _).0 (ap number_of e, refl))
 
 -- a User program is entered below the stack's page (L14, L16)
-pub entry_user : (file : List ℕ) → (program_fault User file).number ≡ 0 → entry file < 0x7ffff000
+pub entry_user : (file : List ℕ) → program_fault User file ≡ none → entry file < 0x7ffff000
 unfolding program_fault
 entry_user file e =
     let s = program_enters User file e in

@@ -7,6 +7,10 @@ use Rattle.elf.proofs.faults.file_fault.Kinds as file-fault-kinds
 use Rattle.elf.proofs.faults.file_fault.Reads as file-fault-reads
 use Rattle.elf.proofs.faults.program_fault.Kinds as program-fault-kinds
 use Rattle.elf.proofs.faults.program_fault.Reads as program-fault-reads
+use Rattle.elf.proofs.Fault.number.Kinds as number-kinds
+use Rattle.elf.proofs.Fault.number.Reads as number-reads
+use Rattle.elf.proofs.Fault.about.Kinds as about-kinds
+use Rattle.elf.proofs.Fault.about.Reads as about-reads
 use Rattle.elf.proofs.headers.count.Kinds as count-kinds
 use Rattle.elf.proofs.headers.count.Reads as count-reads
 use Rattle.elf.proofs.headers.entry.Kinds as entry-kinds
@@ -41,3 +45,9 @@ pages_at_once κs a p z₁ z₂ ws₁ ws₂ h₁ h₂ = (same h₁.0 h₂.0, ref
 
 pub symbol_named_once : Unique symbol-named-kinds.ps symbol-named-kinds.r symbol-named-reads.Pre symbol-named-reads.Post
 symbol_named_once κs a p z₁ z₂ ws₁ ws₂ h₁ h₂ = (same h₁ h₂, refl)
+
+pub number_once : Unique number-kinds.ps number-kinds.r number-reads.Pre number-reads.Post
+number_once κs a p z₁ z₂ ws₁ ws₂ h₁ h₂ = (same h₁ h₂, refl)
+
+pub about_once : Unique about-kinds.ps about-kinds.r about-reads.Pre about-reads.Post
+about_once κs a p z₁ z₂ ws₁ ws₂ h₁ h₂ = (same h₁ h₂, refl)

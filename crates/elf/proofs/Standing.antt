@@ -13,7 +13,7 @@ use Rattle.elf.specs.declared.Space.{Space}
 use Rattle.elf.specs.declared.Space.TheVariants.{User, Kernel}
 use Rattle.elf.specs.Header.{header, count, loads, note, raised, reach_from, only_notes, end}
 use Rattle.elf.specs.Home.{physical, home, outside, outside_user, outside_kernel, within, covers, byte_of, stands_from, stands}
-use Rattle.elf.specs.Faults.{shares, overlaps_at, overlaps, file_fault}
+use Rattle.elf.specs.Faults.{shares, overlaps_at, overlaps, none, file_fault}
 use Rattle.elf.proofs.Laws.{both_true, never, covers_on}
 use Rattle.elf.proofs.Search.{misses}
 use Rattle.elf.proofs.Sound.{Sound, segment_sound}
@@ -67,7 +67,7 @@ module _ (space : Space) (file : List ℕ) (a : ℕ) where
       go rest false e = simp e rest
 
 -- at each address of a segment stands that segment's byte (L18)
-pub segment_stands : (space : Space) (file : List ℕ) → (file_fault space file).number ≡ 0 → (i : ℕ) → i < count file → loads file (header file i) ≡ true → (a : ℕ) → home space (header file i).vaddr ≤ a → a < home space (header file i).vaddr + (header file i).memsz → stands space file a ≡ byte_of file (header file i) (home space (header file i).vaddr) a
+pub segment_stands : (space : Space) (file : List ℕ) → file_fault space file ≡ none → (i : ℕ) → i < count file → loads file (header file i) ≡ true → (a : ℕ) → home space (header file i).vaddr ≤ a → a < home space (header file i).vaddr + (header file i).memsz → stands space file a ≡ byte_of file (header file i) (home space (header file i).vaddr) a
 unfolding stands
 segment_stands space file e i l t a p q = stands_at space file a i t (p, q) (segment_sound space file e i l t) (count file) 0 (omega arith) (omega arith)
 
@@ -77,12 +77,12 @@ unfolding stands
 nothing_stands space file a no_one = none_at space file a (count file) 0 (λ i l u t o. no_one i (omega arith) t o.0 o.1)
 
 -- a User program's segment ends below the stack's page (L14)
-pub inside_user : (file : List ℕ) → (file_fault User file).number ≡ 0 → (i : ℕ) → i < count file → loads file (header file i) ≡ true → (header file i).vaddr + (header file i).memsz ≤ 0x7ffff000
+pub inside_user : (file : List ℕ) → file_fault User file ≡ none → (i : ℕ) → i < count file → loads file (header file i) ≡ true → (header file i).vaddr + (header file i).memsz ≤ 0x7ffff000
 unfolding outside outside_user
 inside_user file e i l t = ltb-false _ _ (segment_sound User file e i l t).inside
 
 -- a kernel's segment is at unmapped addresses, and its home is in the RAM (L14)
-pub inside_kernel : (file : List ℕ) → (file_fault Kernel file).number ≡ 0 → (i : ℕ) → i < count file → loads file (header file i) ≡ true → (0x80000000 ≤ (header file i).vaddr) × (physical (header file i).vaddr + (header file i).memsz ≤ 65536)
+pub inside_kernel : (file : List ℕ) → file_fault Kernel file ≡ none → (i : ℕ) → i < count file → loads file (header file i) ≡ true → (0x80000000 ≤ (header file i).vaddr) × (physical (header file i).vaddr + (header file i).memsz ≤ 65536)
 unfolding outside outside_kernel
 inside_kernel file e i l t =
     let p = neither (ltb (header file i).vaddr 0x80000000) _ (segment_sound Kernel file e i l t).inside in
@@ -120,5 +120,5 @@ roomy file h l t =
         go true q = absurd (never false (simp (p, q) at n) refl)
         go false q = q
 
-pub room : (space : Space) (file : List ℕ) → (file_fault space file).number ≡ 0 → (i : ℕ) → i < count file → loads file (header file i) ≡ true → 1 ≤ (header file i).memsz
+pub room : (space : Space) (file : List ℕ) → file_fault space file ≡ none → (i : ℕ) → i < count file → loads file (header file i) ≡ true → 1 ≤ (header file i).memsz
 room space file e i l t = roomy file (header file i) (segment_sound space file e i l t).sizes t

@@ -13,11 +13,11 @@ use Rattle.elf.specs.declared.Header.{Header}
 use Rattle.elf.specs.declared.Section.{Section}
 use Rattle.elf.specs.declared.Space.{Space}
 use Rattle.elf.specs.declared.Space.TheVariants.{User}
-use Rattle.elf.specs.declared.Symbol.TheVariants.{Value, NoSymbol}
+use Rattle.std.specs.Prelude.{Some, None}
 use Rattle.elf.specs.Bytes.{byte, word}
 use Rattle.elf.specs.Header.{header, raised, reach_from, loads}
 use Rattle.elf.specs.Home.{home, covers, byte_of, stands_from}
-use Rattle.elf.specs.Faults.{fault, none, overlaps_at, overlaps, header_fault, segments_fault, any_segment, in_segment}
+use Rattle.elf.specs.Faults.{none, or, overlaps_at, overlaps, header_fault, segments_fault, any_segment, in_segment}
 use Rattle.elf.specs.Symbol.{section, same_from, is_symbol, symbol_from, symbol_by, symbol_of}
 
 -- one of them is left
@@ -27,6 +27,13 @@ turn f n h = ap f (let e : n ≡ suc (n - 1) = omega arith in e)
 -- none is left
 pub done : {A : Type 0} (f : ℕ → A) (n : ℕ) → n ≤ 0 → f n ≡ f 0
 done f n h = ap f (let e : n ≡ 0 = omega arith in e)
+
+-- of n, from i on, one is left, or none
+pub one_more : {A : Type 0} (f : ℕ → A) (n i : ℕ) → i < n → f (n - i) ≡ f (suc (n - (i + 1)))
+one_more f n i h = ap f (let e : n - i ≡ suc (n - (i + 1)) = omega arith in e)
+
+pub no_more : {A : Type 0} (f : ℕ → A) (n i : ℕ) → n ≤ i → f (n - i) ≡ f 0
+no_more f n i h = ap f (let e : n - i ≡ 0 = omega arith in e)
 
 module _ (file : List ℕ) (left i : ℕ) where
   pub reach_turn : (far : ℕ) → 0 < left → reach_from file left i far ≡ reach_from file (left - 1) (i + 1) (raised (header file i) far)
@@ -59,15 +66,15 @@ module _ (file : List ℕ) (left i : ℕ) where
       turn (λ (n : ℕ). symbol_of file name n i) left p
       ∙ ap (λ (t : Section). pick (eqb t.kind 2) (symbol_by file t name) (symbol_of file name (left - 1) (i + 1))) (sym e)
 
-  pub section_done : (name : List ℕ) → left ≤ 0 → symbol_of file name left i ≡ NoSymbol
+  pub section_done : (name : List ℕ) → left ≤ 0 → symbol_of file name left i ≡ None
   unfolding symbol_of
   section_done name h = done (λ (n : ℕ). symbol_of file name n i) left h
 
-  pub symbol_turn : (names : Section) (name : List ℕ) → 0 < left → symbol_from file names name left i ≡ pick (is_symbol file names name i) (Value (word file (i + 4))) (symbol_from file names name (left - 1) (i + 16))
+  pub symbol_turn : (names : Section) (name : List ℕ) → 0 < left → symbol_from file names name left i ≡ pick (is_symbol file names name i) (Some (word file (i + 4))) (symbol_from file names name (left - 1) (i + 16))
   unfolding symbol_from
   symbol_turn names name h = turn (λ (n : ℕ). symbol_from file names name n i) left h
 
-  pub symbol_done : (names : Section) (name : List ℕ) → left ≤ 0 → symbol_from file names name left i ≡ NoSymbol
+  pub symbol_done : (names : Section) (name : List ℕ) → left ≤ 0 → symbol_from file names name left i ≡ None
   unfolding symbol_from
   symbol_done names name h = done (λ (n : ℕ). symbol_from file names name n i) left h
 
@@ -90,13 +97,13 @@ module _ (file : List ℕ) (left i : ℕ) where
     unfolding overlaps
     overlaps_done h p = done (λ (n : ℕ). overlaps space file h n i) left p
 
-    pub segments_turn : 0 < left → segments_fault space file left i ≡ pick (eqb (header_fault space file i) 0) (segments_fault space file (left - 1) (i + 1)) (fault (header_fault space file i) i)
+    pub segments_turn : i < left → segments_fault space file (left - i) i ≡ or (header_fault space file i) (segments_fault space file (left - (i + 1)) (i + 1))
     unfolding segments_fault
-    segments_turn h = turn (λ (n : ℕ). segments_fault space file n i) left h
+    segments_turn h = one_more (λ (k : ℕ). segments_fault space file k i) left i h
 
-    pub segments_done : left ≤ 0 → segments_fault space file left i ≡ none
+    pub segments_done : left ≤ i → segments_fault space file (left - i) i ≡ none
     unfolding segments_fault
-    segments_done h = done (λ (n : ℕ). segments_fault space file n i) left h
+    segments_done h = no_more (λ (k : ℕ). segments_fault space file k i) left i h
 
 module _ (file : List ℕ) (at : ℕ) (name : List ℕ) (i : ℕ) where
   pub same_start : same_from file at name ≡ same_from file (at + 0) (drop 0 name)

@@ -1,12 +1,11 @@
 -- Why a file is refused, in plain propositions: each number exactly in its case, and what it is about (L5 to L16).
 use Rattle.std.specs.Prelude.{ℕ, ◌+◌, ◌*◌, ◌%◌, ◌<◌, ◌≤◌, true, List, ◌↔◌, ◌⊎◌, ◌≡◌, length}
-use Rattle.elf.specs.declared.Fault.{Fault}
 use Rattle.elf.specs.declared.Space.{Space}
 use Rattle.elf.specs.declared.Space.TheVariants.{User, Kernel}
 use Rattle.elf.specs.Bytes.{byte, half, word}
 use Rattle.elf.specs.Header.{table, count, entry, header, loads}
 use Rattle.elf.specs.Home.{physical, home}
-use Rattle.elf.specs.Faults.{file_fault, program_fault}
+use Rattle.elf.specs.Faults.{Verdict, number_of, about_of, file_fault, program_fault}
 
 -- none of the first six (L5 to L10)
 pub record Headed (file : List ℕ) : Type 0 where
@@ -114,13 +113,13 @@ pub data Why (space : Space) (file : List ℕ) : ℕ → ℕ → Type 0 where
   no_entry : Loadable space file → (Enters file → ⊥) → Why space file 16 (entry file)
   accepted : Loadable space file → Enters file → Why space file 0 0
 
--- a fault has this number, and is about this
-abbrev pub Gives : Fault → ℕ → ℕ → Type 0
-Gives f number about = (f.number ≡ number) × (f.about ≡ about)
+-- a verdict has this number, and is about this
+abbrev pub Gives : Verdict → ℕ → ℕ → Type 0
+Gives v number about = (number_of v ≡ number) × (about_of v ≡ about)
 
 -- of every file: a number is given, and about what, just where it is why; there are no others
 pub record Exact (space : Space) (file : List ℕ) : Type 0 where
   pub file_exact : (number about : ℕ) → Gives (file_fault space file) number about ↔ FileWhy space file number about
   pub program_exact : (number about : ℕ) → Gives (program_fault space file) number about ↔ Why space file number about
-  pub no_other_of_file : (file_fault space file).number ≤ 15
-  pub no_other : (program_fault space file).number ≤ 16
+  pub no_other_of_file : number_of (file_fault space file) ≤ 15
+  pub no_other : number_of (program_fault space file) ≤ 16

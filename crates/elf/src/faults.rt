@@ -9,89 +9,101 @@ use crate::headers::{count, entry, header, loads, table};
 use crate::homes::{covers, home, outside};
 use crate::{Fault, Header, Space};
 
-// No fault.
-fn none() -> Fault
-    ensures { result ≡ F.none }
-{
-    Fault {
-        number: 0,
-        about: 0,
+impl Fault {
+    // Its number.
+    pub fn number(self) -> u8
+        ensures { result ≡ F.number self }
+    {
+        match self {
+            Fault::NotElf => 1,
+            Fault::Short(_) => 2,
+            Fault::Class(_) => 3,
+            Fault::Order(_) => 4,
+            Fault::Machine(_) => 5,
+            Fault::Unlinked(_) => 6,
+            Fault::HeaderSize(_) => 7,
+            Fault::TooMany(_) => 8,
+            Fault::NoTable(_) => 9,
+            Fault::NotStored(_) => 10,
+            Fault::MoreInFile(_) => 11,
+            Fault::TooLarge(_) => 12,
+            Fault::Leaves(_) => 13,
+            Fault::Shared(_) => 14,
+            Fault::NoSegment => 15,
+            Fault::NoEntry(_) => 16,
+        }
+    }
+
+    // What it is about; 0 where it is about nothing.
+    pub fn about(self) -> usize
+        ensures { result ≡ F.about self }
+    {
+        match self {
+            Fault::NotElf | Fault::NoSegment => 0,
+            Fault::Short(n)
+            | Fault::Class(n)
+            | Fault::Order(n)
+            | Fault::Machine(n)
+            | Fault::Unlinked(n)
+            | Fault::HeaderSize(n)
+            | Fault::TooMany(n)
+            | Fault::NoTable(n)
+            | Fault::NotStored(n)
+            | Fault::MoreInFile(n)
+            | Fault::TooLarge(n)
+            | Fault::Leaves(n)
+            | Fault::Shared(n)
+            | Fault::NoEntry(n) => n,
+        }
     }
 }
 
 // What is wrong with the header of a file.
-pub fn head_fault(file: &[u8]) -> Fault
+pub fn head_fault(file: &[u8]) -> Result<(), Fault>
     ensures { result ≡ F.head_fault file.now }
 {
     if word(file, 0) != 0x7f454c46 {
-        return Fault {
-            number: 1,
-            about: 0,
-        };
+        return Err(Fault::NotElf);
     }
     if file.len() < 52 {
-        return Fault {
-            number: 2,
-            about: file.len(),
-        };
+        return Err(Fault::Short(file.len()));
     }
     let class = byte(file, 4);
     if class != 1 {
-        return Fault {
-            number: 3,
-            about: class,
-        };
+        return Err(Fault::Class(class));
     }
     let data = byte(file, 5);
     if data != 2 {
-        return Fault {
-            number: 4,
-            about: data,
-        };
+        return Err(Fault::Order(data));
     }
     let machine = half(file, 18);
     if machine != 8 {
-        return Fault {
-            number: 5,
-            about: machine,
-        };
+        return Err(Fault::Machine(machine));
     }
     let kind = half(file, 16);
     if kind != 2 {
-        return Fault {
-            number: 6,
-            about: kind,
-        };
+        return Err(Fault::Unlinked(kind));
     }
-    none()
+    Ok(())
 }
 
 // What is wrong with its program headers as a table.
-fn table_fault(file: &[u8]) -> Fault
+fn table_fault(file: &[u8]) -> Result<(), Fault>
     ensures { result ≡ F.table_fault file.now }
 {
     let size = half(file, 42);
     if size != 32 {
-        return Fault {
-            number: 7,
-            about: size,
-        };
+        return Err(Fault::HeaderSize(size));
     }
     let many = count(file);
     if 32 < many {
-        return Fault {
-            number: 8,
-            about: many,
-        };
+        return Err(Fault::TooMany(many));
     }
     let at = table(file);
     if file.len() < at + 32 * many {
-        return Fault {
-            number: 9,
-            about: at,
-        };
+        return Err(Fault::NoTable(at));
     }
-    none()
+    Ok(())
 }
 
 // Whether n addresses from a on and m from b on share one.
@@ -148,8 +160,8 @@ fn overlaps(space: Space, file: &[u8], h: Header, n: usize) -> bool
     false
 }
 
-// What is wrong with a segment, by number.
-fn segment_fault(space: Space, file: &[u8], h: Header, i: usize) -> u8
+// What is wrong with a segment.
+fn segment_fault(space: Space, file: &[u8], h: Header, i: usize) -> Result<(), Fault>
     requires { (i ≤ 65536) × Small h }
     ensures { result ≡ F.segment_fault space file.now h i }
 {
@@ -157,25 +169,25 @@ fn segment_fault(space: Space, file: &[u8], h: Header, i: usize) -> u8
     let filesz = h.filesz;
     let memsz = h.memsz;
     if file.len() < offset + filesz {
-        return 10;
+        return Err(Fault::NotStored(i));
     }
     if memsz < filesz {
-        return 11;
+        return Err(Fault::MoreInFile(i));
     }
     if 65536 < memsz {
-        return 12;
+        return Err(Fault::TooLarge(i));
     }
     if outside(space, h) {
-        return 13;
+        return Err(Fault::Leaves(i));
     }
     if overlaps(space, file, h, i) {
-        return 14;
+        return Err(Fault::Shared(i));
     }
-    0
+    Ok(())
 }
 
-// What is wrong with header i, by number.
-fn header_fault(space: Space, file: &[u8], i: usize) -> u8
+// What is wrong with header i.
+fn header_fault(space: Space, file: &[u8], i: usize) -> Result<(), Fault>
     requires { i ≤ 65535 }
     ensures { result ≡ F.header_fault space file.now i }
 {
@@ -183,24 +195,17 @@ fn header_fault(space: Space, file: &[u8], i: usize) -> u8
     if loads(file, h) {
         return segment_fault(space, file, h, i);
     }
-    0
+    Ok(())
 }
 
 // The first fault of the segments.
-fn segments_fault(space: Space, file: &[u8]) -> Fault
+fn segments_fault(space: Space, file: &[u8]) -> Result<(), Fault>
     ensures { result ≡ F.segments_fault space file.now (Headers.count file.now) 0 }
 {
-    let mut left = count(file);
-    let mut i = 0;
-    while 0 < left {
-        let number = header_fault(space, file, i);
-        if number != 0 {
-            return Fault { number, about: i };
-        }
-        i += 1;
-        left -= 1;
+    for i in 0..count(file) {
+        header_fault(space, file, i)?;
     }
-    none()
+    Ok(())
 }
 
 // Whether there is a segment.
@@ -221,27 +226,16 @@ fn any_segment(file: &[u8]) -> bool
 }
 
 // What a file is refused for.
-pub fn file_fault(space: Space, file: &[u8]) -> Fault
+pub fn file_fault(space: Space, file: &[u8]) -> Result<(), Fault>
     ensures { result ≡ F.file_fault space file.now }
 {
-    let a = head_fault(file);
-    if a.number != 0 {
-        return a;
-    }
-    let b = table_fault(file);
-    if b.number != 0 {
-        return b;
-    }
-    let c = segments_fault(space, file);
-    if c.number != 0 {
-        return c;
-    }
+    head_fault(file)?;
+    table_fault(file)?;
+    segments_fault(space, file)?;
     if any_segment(file) {
-        return none();
-    }
-    Fault {
-        number: 15,
-        about: 0,
+        Ok(())
+    } else {
+        Err(Fault::NoSegment)
     }
 }
 
@@ -274,18 +268,13 @@ fn enters(file: &[u8]) -> bool
 }
 
 // What a program is refused for.
-pub fn program_fault(space: Space, file: &[u8]) -> Fault
+pub fn program_fault(space: Space, file: &[u8]) -> Result<(), Fault>
     ensures { result ≡ F.program_fault space file.now }
 {
-    let a = file_fault(space, file);
-    if a.number != 0 {
-        return a;
-    }
+    file_fault(space, file)?;
     if enters(file) {
-        return none();
-    }
-    Fault {
-        number: 16,
-        about: entry(file),
+        Ok(())
+    } else {
+        Err(Fault::NoEntry(entry(file)))
     }
 }

@@ -40,11 +40,25 @@ pub struct Pages {
     pub writable: bool,
 }
 
-// Why a file is refused, by number, and what that is about; 0 where it is not.
+// Why a file is refused, and what that is about: a number of its header, or the number of a program header.
 #[derive(Clone, Copy)]
-pub struct Fault {
-    pub number: u8,
-    pub about: usize,
+pub enum Fault {
+    NotElf,
+    Short(usize),
+    Class(usize),
+    Order(usize),
+    Machine(usize),
+    Unlinked(usize),
+    HeaderSize(usize),
+    TooMany(usize),
+    NoTable(usize),
+    NotStored(usize),
+    MoreInFile(usize),
+    TooLarge(usize),
+    Leaves(usize),
+    Shared(usize),
+    NoSegment,
+    NoEntry(usize),
 }
 
 // A section header.
@@ -54,11 +68,4 @@ pub struct Section {
     pub offset: usize,
     pub size: usize,
     pub link: usize,
-}
-
-// The value of a symbol, where there is one.
-#[derive(Clone, Copy)]
-pub enum Symbol {
-    Value(usize),
-    NoSymbol,
 }

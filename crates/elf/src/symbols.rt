@@ -4,8 +4,8 @@ ghost use Rattle.elf.specs.Bytes as B;
 ghost use Rattle.elf.specs.Symbol as S;
 ghost use Rattle.elf.specs.Small.{SmallSection};
 
+use crate::Section;
 use crate::bytes::{byte, half, word};
-use crate::{Section, Symbol};
 
 // Whether the section headers are of 40 bytes and all in the file.
 fn sectioned(file: &[u8]) -> bool
@@ -105,7 +105,7 @@ fn is_symbol(file: &[u8], names: Section, name: &[u8], at: usize) -> bool
 }
 
 // The first such symbol of so many from an offset on.
-fn symbol_from(file: &[u8], names: Section, name: &[u8], many: usize, from: usize) -> Symbol
+fn symbol_from(file: &[u8], names: Section, name: &[u8], many: usize, from: usize) -> Option<usize>
     requires { (many < 2 ^ 32) × ((from < 2 ^ 32) × ((length name.now ≤ 2 ^ 32) × SmallSection names)) }
     ensures { result ≡ S.symbol_from file.now names name.now many from }
 {
@@ -113,24 +113,24 @@ fn symbol_from(file: &[u8], names: Section, name: &[u8], many: usize, from: usiz
     let mut at = from;
     while 0 < left {
         if is_symbol(file, names, name, at) {
-            return Symbol::Value(word(file, at + 4));
+            return Some(word(file, at + 4));
         }
         at += 16;
         left -= 1;
     }
-    Symbol::NoSymbol
+    None
 }
 
 // Of a section of symbols and its section of names.
-fn symbol_in(file: &[u8], symbols: Section, names: Section, name: &[u8]) -> Symbol
+fn symbol_in(file: &[u8], symbols: Section, names: Section, name: &[u8]) -> Option<usize>
     requires { (length name.now ≤ 2 ^ 32) × (SmallSection symbols × SmallSection names) }
     ensures { result ≡ S.symbol_in file.now symbols names name.now }
 {
     if !in_file(file, symbols) {
-        return Symbol::NoSymbol;
+        return None;
     }
     if !in_file(file, names) {
-        return Symbol::NoSymbol;
+        return None;
     }
     let from = symbols.offset;
     let size = symbols.size;
@@ -138,20 +138,20 @@ fn symbol_in(file: &[u8], symbols: Section, names: Section, name: &[u8]) -> Symb
 }
 
 // Of a section of symbols.
-fn symbol_by(file: &[u8], symbols: Section, name: &[u8]) -> Symbol
+fn symbol_by(file: &[u8], symbols: Section, name: &[u8]) -> Option<usize>
     requires { (length name.now ≤ 2 ^ 32) × SmallSection symbols }
     ensures { result ≡ S.symbol_by file.now symbols name.now }
 {
     let link = symbols.link;
     if half(file, 48) <= link {
-        return Symbol::NoSymbol;
+        return None;
     }
     let names = section(file, link);
     symbol_in(file, symbols, names, name)
 }
 
 // Of the first section of symbols.
-fn symbol_of(file: &[u8], name: &[u8]) -> Symbol
+fn symbol_of(file: &[u8], name: &[u8]) -> Option<usize>
     requires { length name.now ≤ 2 ^ 32 }
     ensures { result ≡ S.symbol_of file.now name.now (B.half file.now 48) 0 }
 {
@@ -165,21 +165,21 @@ fn symbol_of(file: &[u8], name: &[u8]) -> Symbol
         i += 1;
         left -= 1;
     }
-    Symbol::NoSymbol
+    None
 }
 
 // The value of a symbol; a name has 1 to 4,096 bytes.
-pub fn symbol_named(file: &[u8], name: &[u8]) -> Symbol
+pub fn symbol_named(file: &[u8], name: &[u8]) -> Option<usize>
     ensures { result ≡ S.symbol_named file.now name.now }
 {
     if name.len() == 0 {
-        return Symbol::NoSymbol;
+        return None;
     }
     if 4096 < name.len() {
-        return Symbol::NoSymbol;
+        return None;
     }
     if sectioned(file) {
         return symbol_of(file, name);
     }
-    Symbol::NoSymbol
+    None
 }

@@ -1,25 +1,31 @@
 -- The four parts stand in the definition's order.
 use mathlib.Core.Path.{sym, ◌∙◌}
-use borrow.Author.Tests.{eq-eqb, ne_eqb}
+use Rattle.std.proofs.lemmas.Result.{err_from_is_err_and}
 use Rattle.elf.specs.Faults.{file_fault}
 use Rattle.elf.proofs.faults.file_fault.Goals as goal
 
-pub returns-then-a-ne0 : goal.returns-then-a-ne0
+pub returns-in_err-head_fault : goal.returns-in_err-head_fault
 unfolding file_fault
-returns-then-a-ne0 c = simp (sym c.head_fault-a.ensures, ne_eqb _ _ c.if-a-ne0.true)
+returns-in_err-head_fault c =
+    let p = err_from_is_err_and c.from_residual.result c.from_residual.ensures.1 in
+    rw (p.1, p.2) (simp (sym c.in_err-head_fault.ensures))
 
-pub returns-then-b-ne0 : goal.returns-then-b-ne0
+pub returns-in_err-table_fault : goal.returns-in_err-table_fault
 unfolding file_fault
-returns-then-b-ne0 c = simp (sym c.head_fault-a.ensures, eq-eqb _ _ c.if-a-ne0.false, sym c.table_fault-b.ensures, ne_eqb _ _ c.if-b-ne0.true)
+returns-in_err-table_fault c =
+    let p = err_from_is_err_and c.from_residual-in_err-table_fault.result c.from_residual-in_err-table_fault.ensures.1 in
+    rw (p.1, p.2) (simp (sym c.in_ok-head_fault.ensures, sym c.in_err-table_fault.ensures))
 
-pub returns-then-c-ne0 : goal.returns-then-c-ne0
+pub returns-in_err-segments_fault : goal.returns-in_err-segments_fault
 unfolding file_fault
-returns-then-c-ne0 c = simp (sym c.head_fault-a.ensures, eq-eqb _ _ c.if-a-ne0.false, sym c.table_fault-b.ensures, eq-eqb _ _ c.if-b-ne0.false, sym c.segments_fault-c.ensures, ne_eqb _ _ c.if-c-ne0.true)
+returns-in_err-segments_fault c =
+    let p = err_from_is_err_and c.from_residual-in_err-segments_fault.result c.from_residual-in_err-segments_fault.ensures.1 in
+    rw (p.1, p.2) (simp (sym c.in_ok-head_fault.ensures, sym c.in_ok-table_fault.ensures, sym c.in_err-segments_fault.ensures))
 
 pub returns-then-any_segment : goal.returns-then-any_segment
 unfolding file_fault
-returns-then-any_segment c = simp (sym c.head_fault-a.ensures, eq-eqb _ _ c.if-a-ne0.false, sym c.table_fault-b.ensures, eq-eqb _ _ c.if-b-ne0.false, sym c.segments_fault-c.ensures, eq-eqb _ _ c.if-c-ne0.false, sym c.any_segment.ensures ∙ c.if-any_segment.true, sym c.none.ensures)
+returns-then-any_segment c = simp (sym c.in_ok-head_fault.ensures, sym c.in_ok-table_fault.ensures, sym c.in_ok-segments_fault.ensures, sym c.any_segment.ensures ∙ c.if-any_segment.true)
 
-pub returns : goal.returns
+pub returns-else-any_segment : goal.returns-else-any_segment
 unfolding file_fault
-returns c = simp (sym c.head_fault-a.ensures, eq-eqb _ _ c.if-a-ne0.false, sym c.table_fault-b.ensures, eq-eqb _ _ c.if-b-ne0.false, sym c.segments_fault-c.ensures, eq-eqb _ _ c.if-c-ne0.false, sym c.any_segment.ensures ∙ c.if-any_segment.false)
+returns-else-any_segment c = simp (sym c.in_ok-head_fault.ensures, sym c.in_ok-table_fault.ensures, sym c.in_ok-segments_fault.ensures, sym c.any_segment.ensures ∙ c.if-any_segment.false)

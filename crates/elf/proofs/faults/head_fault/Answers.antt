@@ -30,4 +30,4 @@ returns-then-kind-ne2 c = simp (sym c.word.ensures.0, eq-eqb _ _ c.if-word-ne213
 
 pub returns : goal.returns
 unfolding head_fault
-returns c = simp (sym c.word.ensures.0, eq-eqb _ _ c.if-word-ne2135247942.false, le-leb _ _ c.if-file-lt52.false, sym c.byte-class.ensures.0, eq-eqb _ _ c.if-class-ne1.false, sym c.byte-data.ensures.0, eq-eqb _ _ c.if-data-ne2.false, sym c.half-machine.ensures.0, eq-eqb _ _ c.if-machine-ne8.false, sym c.half-kind.ensures.0, eq-eqb _ _ c.if-kind-ne2.false, sym c.none.ensures)
+returns c = simp (sym c.word.ensures.0, eq-eqb _ _ c.if-word-ne2135247942.false, le-leb _ _ c.if-file-lt52.false, sym c.byte-class.ensures.0, eq-eqb _ _ c.if-class-ne1.false, sym c.byte-data.ensures.0, eq-eqb _ _ c.if-data-ne2.false, sym c.half-machine.ensures.0, eq-eqb _ _ c.if-machine-ne8.false, sym c.half-kind.ensures.0, eq-eqb _ _ c.if-kind-ne2.false)

@@ -1,17 +1,19 @@
 -- The file is tested first, then the entry point.
 use mathlib.Core.Path.{sym, ◌∙◌}
-use borrow.Author.Tests.{eq-eqb, ne_eqb}
+use Rattle.std.proofs.lemmas.Result.{err_from_is_err_and}
 use Rattle.elf.specs.Faults.{program_fault}
 use Rattle.elf.proofs.faults.program_fault.Goals as goal
 
-pub returns-then-a-ne0 : goal.returns-then-a-ne0
+pub returns-in_err-file_fault : goal.returns-in_err-file_fault
 unfolding program_fault
-returns-then-a-ne0 c = simp (sym c.file_fault-a.ensures, ne_eqb _ _ c.if-a-ne0.true)
+returns-in_err-file_fault c =
+    let p = err_from_is_err_and c.from_residual.result c.from_residual.ensures.1 in
+    rw (p.1, p.2) (simp (sym c.in_err-file_fault.ensures))
 
 pub returns-then-enters : goal.returns-then-enters
 unfolding program_fault
-returns-then-enters c = simp (sym c.file_fault-a.ensures, eq-eqb _ _ c.if-a-ne0.false, sym c.enters.ensures ∙ c.if-enters.true, sym c.none.ensures)
+returns-then-enters c = simp (sym c.in_ok-file_fault.ensures, sym c.enters.ensures ∙ c.if-enters.true)
 
-pub returns : goal.returns
+pub returns-else-enters : goal.returns-else-enters
 unfolding program_fault
-returns c = simp (sym c.file_fault-a.ensures, eq-eqb _ _ c.if-a-ne0.false, sym c.enters.ensures ∙ c.if-enters.false, sym c.entry.ensures.0)
+returns-else-enters c = simp (sym c.in_ok-file_fault.ensures, sym c.enters.ensures ∙ c.if-enters.false, sym c.entry.ensures.0)

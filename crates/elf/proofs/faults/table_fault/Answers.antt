@@ -18,4 +18,4 @@ returns-then-file-at c = simp (sym c.half-size.ensures.0, eq-eqb _ _ c.if-size-n
 
 pub returns : goal.returns
 unfolding table_fault
-returns c = simp (sym c.half-size.ensures.0, eq-eqb _ _ c.if-size-ne32.false, sym c.count-many.ensures.0, le-leb _ _ c.if-many-gt32.false, sym c.table-at.ensures.0, le-leb _ _ c.if-file-at.false, sym c.none.ensures)
+returns c = simp (sym c.half-size.ensures.0, eq-eqb _ _ c.if-size-ne32.false, sym c.count-many.ensures.0, le-leb _ _ c.if-many-gt32.false, sym c.table-at.ensures.0, le-leb _ _ c.if-file-at.false)

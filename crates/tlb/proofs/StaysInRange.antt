@@ -3,6 +3,7 @@ use Prim.Native.Nat.{ℕ, zero, suc, ◌+◌, ◌-◌, ◌*◌, ◌/◌, ◌%◌
 use mathlib.Core.Path.{◌≡◌, refl, ap, ◌∙◌}
 use mathlib.Core.Bool.{Bool, true, false}
 use mathlib.Core.List.{List}
+use Rattle.std.specs.Prelude.{Option, None, Some}
 use mathlib.Core.Logic.{◌⊎◌, inl, inr}
 use native.Mathlib.Decide.{ℕ_discrete}
 use native.Mathlib.Nat.{pow-suc}
@@ -14,7 +15,6 @@ use borrow.Author.Tests.{lt-ltb}
 use Rattle.promise.specs.Pick.{pick, both}
 use Rattle.tlb.specs.declared.Slot.{Slot}
 use Rattle.tlb.specs.declared.SlotWrite.{SlotWrite}
-use Rattle.tlb.specs.declared.SlotWrite.TheVariants.{Keep, Put}
 use Rattle.tlb.specs.PageMask.{run, legal_mask}
 use Rattle.tlb.specs.Slot.{slot_at, page, asid_of, without_g, cleared, both_global, stored, put_slot}
 use Rattle.tlb.specs.Range.{hi_in_range, lo_in_range, slot_in_range, slots_in_range, tlb_in_range, legal_write}
@@ -119,14 +119,14 @@ unfolding tlb_in_range
 each_in_range tlb all = each_slots 48 0 tlb (λ j l h. all j (omega arith))
 
 -- a write of a legal mask keeps a TLB in range
-pub put_in_range : (tlb : List ℕ) (w : SlotWrite) → length tlb ≡ 192 → tlb_in_range tlb ≡ true → legal_write w ≡ true → tlb_in_range (put_slot tlb w) ≡ true
+pub put_in_range : (tlb : List ℕ) (w : Option SlotWrite) → length tlb ≡ 192 → tlb_in_range tlb ≡ true → legal_write w ≡ true → tlb_in_range (put_slot tlb w) ≡ true
 unfolding legal_write put_slot
-put_in_range tlb Keep l e legal = keeps
+put_in_range tlb None l e legal = keeps
   where
-    keeps : tlb_in_range (put_slot tlb Keep) ≡ true
+    keeps : tlb_in_range (put_slot tlb None) ≡ true
     keeps = e
-put_in_range tlb (Put i moved) l e legal = each_in_range (put_slot tlb (Put i moved)) (λ j h. go j h (ℕ_discrete j i))
+put_in_range tlb (Some w) l e legal = each_in_range (put_slot tlb (Some w)) (λ j h. go j h (ℕ_discrete j w.index))
   where
-    go : (j : ℕ) → j < 48 → Dec (j ≡ i) → slot_in_range (slot_at (put_slot tlb (Put i moved)) j) ≡ true
-    go j h (yes d) = rw (d, put_same tlb i moved l (omega arith)) (stored_in_range moved legal)
-    go j h (no n) = rw (put_other tlb i j moved n) (in_range_each tlb e j h)
+    go : (j : ℕ) → j < 48 → Dec (j ≡ w.index) → slot_in_range (slot_at (put_slot tlb (Some w)) j) ≡ true
+    go j h (yes d) = rw (d, put_same tlb w.index w.moved l (omega arith)) (stored_in_range w.moved legal)
+    go j h (no n) = rw (put_other tlb w.index j w.moved n) (in_range_each tlb e j h)

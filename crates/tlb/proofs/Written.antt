@@ -3,6 +3,7 @@ use Prim.Native.Nat.{ℕ, ◌+◌, ◌*◌, ◌/◌, ◌<◌}
 use mathlib.Core.Path.{◌≡◌, refl, ◌∙◌}
 use mathlib.Core.Bool.{Bool, true, false}
 use mathlib.Core.List.{List}
+use Rattle.std.specs.Prelude.{Option, None, Some}
 use native.Mathlib.Omega.{arith}
 use lib.Dec.{ltb}
 use lib.ListN.{length, get_or, set, length-set}
@@ -11,8 +12,7 @@ use borrow.Author.Tests.{lt-ltb}
 use Rattle.promise.specs.Pick.{pick}
 use Rattle.tlb.specs.declared.Slot.{Slot}
 use Rattle.tlb.specs.declared.SlotWrite.{SlotWrite}
-use Rattle.tlb.specs.declared.SlotWrite.TheVariants.{Keep, Put}
-use Rattle.tlb.specs.Slot.{slot_at, set_slot, put_slot, stored}
+use Rattle.tlb.specs.Slot.{slot_at, set_slot, write, put_slot, stored}
 
 module _ (tlb : List ℕ) (i : ℕ) (s : Slot) where
   pub length_set_slot : length (set_slot tlb i s) ≡ length tlb
@@ -79,17 +79,17 @@ module _ (tlb : List ℕ) (i : ℕ) (s : Slot) where
         rw (a, b, c, d)
 
 -- a write keeps the length
-pub put_length : (tlb : List ℕ) (w : SlotWrite) → length (put_slot tlb w) ≡ length tlb
+pub put_length : (tlb : List ℕ) (w : Option SlotWrite) → length (put_slot tlb w) ≡ length tlb
 unfolding put_slot
-put_length tlb Keep = refl
-put_length tlb (Put i moved) = go (ltb i 48)
+put_length tlb None = refl
+put_length tlb (Some w) = go (ltb w.index 48)
   where
-    go : (b : Bool) → length (pick b (set_slot tlb i (stored moved)) tlb) ≡ length tlb
-    go true = length_set_slot tlb i (stored moved)
+    go : (b : Bool) → length (pick b (set_slot tlb w.index (stored w.moved)) tlb) ≡ length tlb
+    go true = length_set_slot tlb w.index (stored w.moved)
     go false = refl
 
 -- a slot that is not written keeps its numbers
-pub put_other : (tlb : List ℕ) (i j : ℕ) (moved : Slot) → (j ≡ i → ⊥) → slot_at (put_slot tlb (Put i moved)) j ≡ slot_at tlb j
+pub put_other : (tlb : List ℕ) (i j : ℕ) (moved : Slot) → (j ≡ i → ⊥) → slot_at (put_slot tlb (Some (write i moved))) j ≡ slot_at tlb j
 unfolding put_slot
 put_other tlb i j moved n = go (ltb i 48)
   where
@@ -98,6 +98,6 @@ put_other tlb i j moved n = go (ltb i 48)
     go false = refl
 
 -- the slot that is written holds what is stored
-pub put_same : (tlb : List ℕ) (i : ℕ) (moved : Slot) → length tlb ≡ 192 → i < 48 → slot_at (put_slot tlb (Put i moved)) i ≡ stored moved
+pub put_same : (tlb : List ℕ) (i : ℕ) (moved : Slot) → length tlb ≡ 192 → i < 48 → slot_at (put_slot tlb (Some (write i moved))) i ≡ stored moved
 unfolding put_slot
 put_same tlb i moved l h = rw (lt-ltb i 48 h) (set_slot_same tlb i (stored moved) (omega arith))

@@ -1,11 +1,10 @@
 -- The range of a slot, for refusal 4.
-use Rattle.std.specs.Prelude.{ℕ, zero, suc, ◌+◌, ◌%◌, ◌^◌, Bool, true, List, ltb, eqb}
+use Rattle.std.specs.Prelude.{ℕ, zero, suc, ◌+◌, ◌%◌, ◌^◌, Bool, true, List, Option, None, Some, ltb, eqb}
 use Rattle.std.specs.Int.Bits.{bit_and}
 use Rattle.promise.specs.Bits.{bits}
 use Rattle.promise.specs.Pick.{both}
 use Rattle.tlb.specs.declared.Slot.{Slot}
 use Rattle.tlb.specs.declared.SlotWrite.{SlotWrite}
-use Rattle.tlb.specs.declared.SlotWrite.TheVariants.{Keep, Put}
 use Rattle.tlb.specs.PageMask.{run, legal_mask}
 use Rattle.tlb.specs.Slot.{slot_at, page}
 
@@ -31,6 +30,6 @@ unfoldable pub tlb_in_range : List ℕ → Bool
 tlb_in_range tlb = slots_in_range 48 0 tlb
 
 -- the mask of a write is legal, where there is one: what T1 and I8 let through
-unfoldable pub legal_write : SlotWrite → Bool
-legal_write Keep = true
-legal_write (Put i moved) = legal_mask moved.mask
+unfoldable pub legal_write : Option SlotWrite → Bool
+legal_write None = true
+legal_write (Some w) = legal_mask w.moved.mask

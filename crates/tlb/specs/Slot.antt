@@ -1,13 +1,10 @@
 -- A slot of the TLB: where it stands, its fields, what a write stores and a read gives.
-use Rattle.std.specs.Prelude.{ℕ, ◌+◌, ◌-◌, ◌*◌, ◌%◌, ◌^◌, Bool, List, ltb, eqb, get_or, set}
+use Rattle.std.specs.Prelude.{ℕ, ◌+◌, ◌-◌, ◌*◌, ◌%◌, ◌^◌, Bool, List, Option, None, Some, ltb, eqb, get_or, set}
 use Rattle.std.specs.Int.Bits.{bit_and}
 use Rattle.promise.specs.Bits.{bit, bits, set?}
 use Rattle.promise.specs.Pick.{pick, both}
 use Rattle.tlb.specs.declared.Slot.{Slot}
-use Rattle.tlb.specs.declared.SlotRead.{SlotRead}
-use Rattle.tlb.specs.declared.SlotRead.TheVariants.{Is, Nothing}
 use Rattle.tlb.specs.declared.SlotWrite.{SlotWrite}
-use Rattle.tlb.specs.declared.SlotWrite.TheVariants.{Keep, Put}
 use Rattle.tlb.specs.PageMask.{run}
 
 -- a slot of four numbers
@@ -70,10 +67,14 @@ stored moved =
 unfoldable pub set_slot : List ℕ → ℕ → Slot → List ℕ
 set_slot tlb i s = set (set (set (set tlb (i * 4) s.mask) (i * 4 + 1) s.hi) (i * 4 + 2) s.lo0) (i * 4 + 3) s.lo1
 
--- the TLB after a step's write: slot 48 and above do not exist, and such a write does nothing (T8, T9, house)
-unfoldable pub put_slot : List ℕ → SlotWrite → List ℕ
-put_slot tlb Keep = tlb
-put_slot tlb (Put i moved) = pick (ltb i 48) (set_slot tlb i (stored moved)) tlb
+-- the write of `moved` to slot i
+abbrev pub write : ℕ → Slot → SlotWrite
+write i moved = record { index = i; moved = moved }
+
+-- the TLB after a step's write, where there is one: slot 48 and above do not exist, and such a write does nothing (T8, T9, house)
+unfoldable pub put_slot : List ℕ → Option SlotWrite → List ℕ
+put_slot tlb None = tlb
+put_slot tlb (Some w) = pick (ltb w.index 48) (set_slot tlb w.index (stored w.moved)) tlb
 
 -- what TLBR gives of a slot to PageMask, EntryHi, EntryLo0 and EntryLo1: G goes to both halves (T7)
 unfoldable pub shown : Slot → Slot
@@ -84,5 +85,5 @@ shown s =
     (without_g s.lo1 + bit s.hi 12)
 
 -- TLBR of slot i: 48 and above do not exist, and their read does nothing (T8, T9, house)
-unfoldable pub read_slot : List ℕ → ℕ → SlotRead
-read_slot tlb i = pick (ltb i 48) (Is (shown (slot_at tlb i))) Nothing
+unfoldable pub read_slot : List ℕ → ℕ → Option Slot
+read_slot tlb i = pick (ltb i 48) (Some (shown (slot_at tlb i))) None

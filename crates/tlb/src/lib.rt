@@ -39,11 +39,11 @@ pub struct Slot {
     pub lo1: u64,
 }
 
-// What a step writes to the TLB: nothing, or a slot from values as they were moved to PageMask, EntryHi, EntryLo0 and EntryLo1.
+// A write of a slot, from values as they were moved to PageMask, EntryHi, EntryLo0 and EntryLo1.
 #[derive(Clone, Copy)]
-pub enum SlotWrite {
-    Keep,
-    Put { index: usize, moved: Slot },
+pub struct SlotWrite {
+    pub index: usize,
+    pub moved: Slot,
 }
 
 // Which slots match an address.
@@ -74,16 +74,6 @@ pub enum Where {
     AddressError,
 }
 
-// What TLBP finds: what Index becomes, or two slots that match.
+// Two slots match, where TLBP asks for one.
 #[derive(Clone, Copy)]
-pub enum Probe {
-    Index(u64),
-    Double,
-}
-
-// What TLBR finds: values for PageMask, EntryHi, EntryLo0 and EntryLo1, or no such slot.
-#[derive(Clone, Copy)]
-pub enum SlotRead {
-    Is(Slot),
-    Nothing,
-}
+pub struct DoubleMatch;

@@ -2,7 +2,7 @@
 ghost use Rattle.std.specs.Prelude.{◌≡◌, ◌%◌};
 ghost use Rattle.tlb.specs.Slot as S;
 
-use super::{Slot, SlotRead, SlotWrite};
+use super::{Slot, SlotWrite};
 
 // A slot by its number, of which 48 are told apart.
 pub fn slot_at(tlb: &[u64; 192], index: usize) -> Slot
@@ -50,22 +50,19 @@ pub fn stored(moved: Slot) -> Slot
 }
 
 // The write of a step; a slot of 48 or more is none.
-pub fn put_slot(tlb: &mut [u64; 192], s: SlotWrite)
+#[tactic(auto, unfolding(crate::specs::Slot::put_slot, crate::specs::Slot::set_slot))]
+pub fn put_slot(tlb: &mut [u64; 192], s: Option<SlotWrite>)
     ensures { tlb.new ≡ S.put_slot tlb.old s }
 {
-    match s {
-        SlotWrite::Keep => {}
-        SlotWrite::Put { index, moved } => {
-            if 48 <= index {
-                return;
-            }
-            let kept = stored(moved);
-            let i = index * 4;
-            tlb[i] = kept.mask;
-            tlb[i + 1] = kept.hi;
-            tlb[i + 2] = kept.lo0;
-            tlb[i + 3] = kept.lo1;
-        }
+    if let Some(write) = s
+        && write.index < 48
+    {
+        let kept = stored(write.moved);
+        let i = write.index * 4;
+        tlb[i] = kept.mask;
+        tlb[i + 1] = kept.hi;
+        tlb[i + 2] = kept.lo0;
+        tlb[i + 3] = kept.lo1;
     }
 }
 
@@ -83,11 +80,13 @@ fn shown(s: Slot) -> Slot
 }
 
 // TLBR; a slot of 48 or more is none.
-pub fn read_slot(tlb: &[u64; 192], index: usize) -> SlotRead
+#[tactic(auto, unfolding(crate::specs::Slot::read_slot))]
+pub fn read_slot(tlb: &[u64; 192], index: usize) -> Option<Slot>
     ensures { result ≡ S.read_slot tlb.now index }
 {
     if index < 48 {
-        return SlotRead::Is(shown(slot_at(tlb, index)));
+        Some(shown(slot_at(tlb, index)))
+    } else {
+        None
     }
-    SlotRead::Nothing
 }

@@ -1,12 +1,12 @@
 -- A move of a value that is built leaves the registers in range.
-use Rattle.std.proofs.Common.{◌≡◌, ℕ, ◌+◌, ◌*◌, ◌/◌, ◌%◌, ◌^◌, ◌≤◌, Bool, true, false, eqb, leb, sym, refl, ap, ◌∙◌, subst, arith, eq-eqb, eqb-true, le-leb, leb-true}
+use Rattle.std.proofs.Common.{◌≡◌, Result, Ok, Err, ℕ, ◌+◌, ◌*◌, ◌/◌, ◌%◌, ◌^◌, ◌≤◌, Bool, true, false, eqb, leb, sym, refl, ap, ◌∙◌, subst, arith, eq-eqb, eqb-true, le-leb, leb-true}
 use Rattle.promise.specs.Pick.{pick}
 use Rattle.promise.specs.Bits.{bits}
 use Rattle.tlb.specs.PageMask.{legal_mask}
 use Rattle.cp0.specs.declared.Cp0.{Cp0}
-use Rattle.cp0.specs.declared.Move.TheVariants.{Built, NotBuilt}
+use Rattle.cp0.specs.declared.NotBuilt.{NotBuilt}
 use Rattle.cp0.specs.Registers.{Index, Random, EntryLo0, EntryLo1, Context, PageMask, Wired, Count, EntryHi, Compare, Status, Cause, EPC, Config, TagLo, TagHi, ErrorEPC, set, low, only, replaced, cleared, kept_index, kept_entry_lo, kept_wired, kept_entry_hi, kept_status}
-use Rattle.cp0.specs.Moves.{move_control, move_word, move_in, built_status, check_move}
+use Rattle.cp0.specs.Moves.{move_control, move_word, move_in, built_status, not_built, check_move}
 use Rattle.cp0.specs.Range.{config_in_range, cp0_in_range}
 use Rattle.cp0.proofs.KeptBits.{index_kept, entrylo_kept, wired_kept, entryhi_kept, context_moved, cause_untimed, cause_moved}
 use Rattle.cp0.proofs.StatusRange.{status_moved}
@@ -66,17 +66,17 @@ module _ (c : Cp0) (r : InRange c) where
       simp (e4, e14, e30) (word_in n (low v) built legal))))
 
 -- what a built move says of its value
-if_built : (b : Bool) → pick b Built NotBuilt ≡ Built → b ≡ true
+if_built : (b : Bool) → ◌≡◌ {A = Result Unit NotBuilt} (pick b (Ok tt) (Err not_built)) (Ok tt) → b ≡ true
 if_built true h = refl
 if_built false h = let z : ◌≡◌ {A = ℕ} 0 1 = cc in absurd (omega arith)
 
-status_built : (n v : ℕ) → check_move n v ≡ Built → n ≡ Status → built_status (low v) ≡ true
+status_built : (n v : ℕ) → check_move n v ≡ Ok tt → n ≡ Status → built_status (low v) ≡ true
 unfolding check_move
 status_built n v h p = if_built (built_status (low v)) (sym (ap (λ (m : ℕ). check_move m v) p) ∙ h)
 
-mask_built : (n v : ℕ) → check_move n v ≡ Built → n ≡ PageMask → legal_mask (low v) ≡ true
+mask_built : (n v : ℕ) → check_move n v ≡ Ok tt → n ≡ PageMask → legal_mask (low v) ≡ true
 unfolding check_move
 mask_built n v h p = if_built (legal_mask (low v)) (sym (ap (λ (m : ℕ). check_move m v) p) ∙ h)
 
-pub moved_in_range : (c : Cp0) (n v : ℕ) → check_move n v ≡ Built → cp0_in_range c ≡ true → cp0_in_range (move_in c n v) ≡ true
+pub moved_in_range : (c : Cp0) (n v : ℕ) → check_move n v ≡ Ok tt → cp0_in_range c ≡ true → cp0_in_range (move_in c n v) ≡ true
 moved_in_range c n v b h = range_made (move_in c n v) (move_in_lem c (range_read c h) n v (status_built n v b) (mask_built n v b))

@@ -1,12 +1,12 @@
 -- Whatever a step does to the registers, it leaves them in range: each law for one thing that it does.
-use Rattle.std.proofs.Common.{◌≡◌, ℕ, ◌+◌, ◌*◌, ◌/◌, ◌%◌, ◌^◌, ◌<◌, Bool, true, sym, refl, subst, arith, eq-eqb}
+use Rattle.std.proofs.Common.{Option, None, Some, ◌≡◌, ℕ, ◌+◌, ◌*◌, ◌/◌, ◌%◌, ◌^◌, ◌<◌, Bool, true, sym, refl, subst, arith, eq-eqb}
 use lib.Count.{ones, ones_in, count_trailing_zeros}
 use Rattle.promise.specs.Bits.{bits}
 use Rattle.memory.specs.declared.PAddr.{PAddr}
 use Rattle.tlb.specs.PageMask.{legal_mask, trailing_ones}
 use Rattle.cp0.specs.declared.Cp0.{Cp0}
 use Rattle.cp0.specs.declared.Bad.{Bad}
-use Rattle.cp0.specs.declared.Bad.TheVariants.{Nothing, Address, Page}
+use Rattle.cp0.specs.declared.Bad.TheVariants.{Address, Page}
 use Rattle.cp0.specs.declared.Exception.{Exception}
 use Rattle.cp0.specs.Registers.{Index, BadVAddr, Context, EntryHi, Status, Cause, EPC, LLAddr, set, low, only, replaced, kept_index, fresh, linked, probed}
 use Rattle.cp0.specs.Exceptions.{told, bd_after, cause_after, epc_after, addressed, entered, status_returned, returned}
@@ -49,11 +49,11 @@ returned_in_range c h =
     range_made (returned c) (set_in c Status (status_returned c.status) (status_returned_lem c.status r.status_in) r.random_in r)
 
 -- the address of an exception
-addressed_in : (c : Cp0) (b : Bad) → InRange c → InRange (addressed c b)
+addressed_in : (c : Cp0) (b : Option Bad) → InRange c → InRange (addressed c b)
 unfolding addressed set may
-addressed_in c Nothing r = r
-addressed_in c (Address v) r = set_in c BadVAddr v.0 refl r.random_in r
-addressed_in c (Page v) r =
+addressed_in c None r = r
+addressed_in c (Some (Address v)) r = set_in c BadVAddr v.0 refl r.random_in r
+addressed_in c (Some (Page v)) r =
     set_in (set (set c BadVAddr v.0) Context (only c.context 23 41 + bits v.0 13 19 * 2 ^ 4)) EntryHi (only v.0 13 19 + c.entryhi % 2 ^ 8) (eq-eqb _ _ (entryhi_page v.0 c.entryhi)) r.random_in
     (set_in (set c BadVAddr v.0) Context (only c.context 23 41 + bits v.0 13 19 * 2 ^ 4) (eq-eqb _ _ (context_page v.0 c.context)) r.random_in
     (set_in c BadVAddr v.0 refl r.random_in r))

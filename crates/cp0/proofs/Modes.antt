@@ -1,11 +1,11 @@
 -- What isolation rests on: an exception leads out of User mode and keeps the ASID; the end of a step and LL change neither.
-use Rattle.std.proofs.Common.{◌≡◌, ℕ, ◌/◌, ◌%◌, ◌^◌, Bool, true, false, eqb, refl, ap, ◌∙◌, arith, eq-eqb}
+use Rattle.std.proofs.Common.{Option, None, Some, ◌≡◌, ℕ, ◌/◌, ◌%◌, ◌^◌, Bool, true, false, eqb, refl, ap, ◌∙◌, arith, eq-eqb}
 use Rattle.promise.specs.Pick.{both, either, not}
 use Rattle.memory.specs.declared.PAddr.{PAddr}
 use Rattle.tlb.specs.declared.Mode.TheVariants.{User}
 use Rattle.cp0.specs.declared.Cp0.{Cp0}
 use Rattle.cp0.specs.declared.Bad.{Bad}
-use Rattle.cp0.specs.declared.Bad.TheVariants.{Nothing, Address, Page}
+use Rattle.cp0.specs.declared.Bad.TheVariants.{Address, Page}
 use Rattle.cp0.specs.declared.Exception.{Exception}
 use Rattle.cp0.specs.Registers.{set, replaced, linked}
 use Rattle.cp0.specs.Status.{KSU, ERL, EXL, user, mode_of}
@@ -27,17 +27,17 @@ not_user status h = go (eqb (KSU status) 2) (EXL status) h
     go true false p = let z : ◌≡◌ {A = ℕ} 0 1 = cc in absurd (omega arith)
     go false x p = refl
 
-addressed_status : (c : Cp0) (b : Bad) → (addressed c b).status ≡ c.status
+addressed_status : (c : Cp0) (b : Option Bad) → (addressed c b).status ≡ c.status
 unfolding addressed set
-addressed_status c Nothing = refl
-addressed_status c (Address v) = refl
-addressed_status c (Page v) = refl
+addressed_status c None = refl
+addressed_status c (Some (Address v)) = refl
+addressed_status c (Some (Page v)) = refl
 
-addressed_asid : (c : Cp0) (b : Bad) → (addressed c b).entryhi % 2 ^ 8 ≡ c.entryhi % 2 ^ 8
+addressed_asid : (c : Cp0) (b : Option Bad) → (addressed c b).entryhi % 2 ^ 8 ≡ c.entryhi % 2 ^ 8
 unfolding addressed set
-addressed_asid c Nothing = refl
-addressed_asid c (Address v) = refl
-addressed_asid c (Page v) = omega arith
+addressed_asid c None = refl
+addressed_asid c (Some (Address v)) = refl
+addressed_asid c (Some (Page v)) = omega arith
 
 module _ (c : Cp0) (pc : ℕ) (slot : Bool) (e : Exception) where
   entered_status : (entered c pc slot e).status ≡ replaced c.status 1 1 1

@@ -1,13 +1,12 @@
 -- Worked examples, which hold of the definitions by computation.
-use Rattle.std.specs.Prelude.{◌≡◌, true, false, refl}
+use Rattle.std.specs.Prelude.{◌≡◌, true, false, Err, refl}
 use Rattle.std.specs.Int.Count.{ones, ones_in, count_trailing_zeros}
 use Rattle.tlb.specs.PageMask.{legal_mask, trailing_ones}
 use Rattle.tlb.specs.declared.Mode.TheVariants.{User, Kernel, Error}
-use Rattle.cp0.specs.declared.Move.TheVariants.{NotBuilt}
 use Rattle.cp0.specs.declared.Exception.TheVariants.{Int, TLBL, CpU}
 use Rattle.cp0.specs.Registers.{fresh}
 use Rattle.cp0.specs.Status.{user, mode_of, cause_read, interrupted}
-use Rattle.cp0.specs.Moves.{built_status, check_move}
+use Rattle.cp0.specs.Moves.{built_status, not_built, check_move}
 use Rattle.cp0.specs.Exceptions.{told, offset, vector, epc_after, bd_after, cause_after}
 
 -- with EXL clear, EPC names the branch of a slot; with EXL set it stays (T25, X3)
@@ -60,10 +59,10 @@ unfolding interrupted cause_read
 line_masked = refl
 
 -- a Status move that sets KX is not built, nor is PageMask 00002000 (T1, T20)
-kx_not : check_move 12 0x00000080 ≡ NotBuilt
+kx_not : check_move 12 0x00000080 ≡ Err not_built
 unfolding check_move built_status
 kx_not = refl
 
-mask_not : check_move 5 0x00002000 ≡ NotBuilt
+mask_not : check_move 5 0x00002000 ≡ Err not_built
 unfolding check_move legal_mask trailing_ones ones ones_in count_trailing_zeros
 mask_not = refl

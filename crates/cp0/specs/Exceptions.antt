@@ -1,36 +1,36 @@
 -- The entry of an exception, its vector, and the return from it.
-use Rattle.std.specs.Prelude.{◌≡◌, ℕ, ◌+◌, ◌-◌, ◌*◌, ◌%◌, ◌^◌, ◌<◌, Bool, false}
+use Rattle.std.specs.Prelude.{◌≡◌, ℕ, ◌+◌, ◌-◌, ◌*◌, ◌%◌, ◌^◌, ◌<◌, Bool, false, Option, None, Some}
 use Rattle.std.proofs.Common.{arith}
 use Rattle.promise.specs.Pick.{pick, both, not}
 use Rattle.promise.specs.Bits.{bit, bits}
 use Rattle.cp0.specs.declared.Cp0.{Cp0}
 use Rattle.cp0.specs.declared.Bad.{Bad}
-use Rattle.cp0.specs.declared.Bad.TheVariants.{Nothing, Address, Page}
+use Rattle.cp0.specs.declared.Bad.TheVariants.{Address, Page}
 use Rattle.cp0.specs.declared.Told.{Told}
 use Rattle.cp0.specs.declared.Exception.{Exception}
 use Rattle.cp0.specs.declared.Exception.TheVariants.{Int, Mod, TLBL, TLBS, AdEL, AdES, IBE, DBE, Sys, Bp, RI, CpU, Ov, Tr}
 use Rattle.cp0.specs.Registers.{Context, BadVAddr, EntryHi, Status, Cause, EPC, set, only, replaced, cleared}
 use Rattle.cp0.specs.Status.{BEV, ERL, EXL}
 
-abbrev pub tells : ℕ → ℕ → Bool → Bad → Told
+abbrev pub tells : ℕ → ℕ → Bool → Option Bad → Told
 tells n u r b = record { code = n; unit = u; refill = r; bad = b }
 
 -- of each exception its code (T22, T23), the unit that CE names (house, T19), whether it is a refill (T24), and the address that it leaves (T27)
 unfoldable pub told : Exception → Told
-told Int = tells 0 0 false Nothing
-told (Mod v) = tells 1 0 false (Page v)
-told (TLBL v refill) = tells 2 0 refill (Page v)
-told (TLBS v refill) = tells 3 0 refill (Page v)
-told (AdEL v) = tells 4 0 false (Address v)
-told (AdES v) = tells 5 0 false (Address v)
-told IBE = tells 6 0 false Nothing
-told DBE = tells 7 0 false Nothing
-told Sys = tells 8 0 false Nothing
-told Bp = tells 9 0 false Nothing
-told RI = tells 10 0 false Nothing
-told (CpU unit) = tells 11 (unit % 4) false Nothing
-told Ov = tells 12 0 false Nothing
-told Tr = tells 13 0 false Nothing
+told Int = tells 0 0 false None
+told (Mod v) = tells 1 0 false (Some (Page v))
+told (TLBL v refill) = tells 2 0 refill (Some (Page v))
+told (TLBS v refill) = tells 3 0 refill (Some (Page v))
+told (AdEL v) = tells 4 0 false (Some (Address v))
+told (AdES v) = tells 5 0 false (Some (Address v))
+told IBE = tells 6 0 false None
+told DBE = tells 7 0 false None
+told Sys = tells 8 0 false None
+told Bp = tells 9 0 false None
+told RI = tells 10 0 false None
+told (CpU unit) = tells 11 (unit % 4) false None
+told Ov = tells 12 0 false None
+told Tr = tells 13 0 false None
 
 -- the branch before a slot at pc: four bytes back, wrapping at 2^64 (T25)
 abbrev pub branch_of : ℕ → ℕ
@@ -53,10 +53,10 @@ unfoldable pub cause_after : ℕ → ℕ → ℕ → ℕ → ℕ
 cause_after cause code unit bd = bd * 2 ^ 31 + replaced (replaced cause 2 5 code) 28 2 unit % 2 ^ 31
 
 -- what an address leaves: BadVAddr always; Context 22..4 and EntryHi's page are only a TLB exception's, and both are bits 31..13 (T27)
-unfoldable pub addressed : Cp0 → Bad → Cp0
-addressed c Nothing = c
-addressed c (Address v) = set c BadVAddr v.0
-addressed c (Page v) =
+unfoldable pub addressed : Cp0 → Option Bad → Cp0
+addressed c None = c
+addressed c (Some (Address v)) = set c BadVAddr v.0
+addressed c (Some (Page v)) =
     set (set (set c BadVAddr v.0) Context (only c.context 23 41 + bits v.0 13 19 * 2 ^ 4))
     EntryHi
     (only v.0 13 19 + c.entryhi % 2 ^ 8)

@@ -1,12 +1,11 @@
 -- Moves from and to the registers, and the moves that are not built.
-use Rattle.std.specs.Prelude.{ℕ, ◌+◌, ◌*◌, ◌/◌, ◌%◌, ◌^◌, Bool, ◌==◌}
+use Rattle.std.specs.Prelude.{ℕ, ◌+◌, ◌*◌, ◌/◌, ◌%◌, ◌^◌, Bool, ◌==◌, Result, Ok, Err}
 use Rattle.promise.specs.Pick.{pick, both, either, not}
 use Rattle.promise.specs.Bits.{bits}
 use Rattle.word.specs.Word.{extend}
 use Rattle.tlb.specs.PageMask.{legal_mask}
 use Rattle.cp0.specs.declared.Cp0.{Cp0}
-use Rattle.cp0.specs.declared.Move.{Move}
-use Rattle.cp0.specs.declared.Move.TheVariants.{Built, NotBuilt}
+use Rattle.cp0.specs.declared.NotBuilt.{NotBuilt}
 use Rattle.cp0.specs.Registers.{Index, Random, EntryLo0, EntryLo1, Context, PageMask, Wired, BadVAddr, Count, EntryHi, Compare, Status, Cause, EPC, PRId, Config, LLAddr, TagLo, TagHi, ErrorEPC, set, low, only, replaced, cleared, kept_index, kept_entry_lo, kept_wired, kept_entry_hi, kept_status}
 use Rattle.cp0.specs.Status.{KSU, cause_read}
 
@@ -79,9 +78,13 @@ built_status w =
     (both (bits w 5 3 == 0)
     (not (either (KSU w == 1) (KSU w == 3)))))
 
+-- a move's value is not built
+abbrev pub not_built : NotBuilt
+not_built = record {}
+
 -- a move of the value v to register n: of Status and PageMask some are not built, judged on the low word (N12, T1, T20)
-unfoldable pub check_move : ℕ → ℕ → Move
+unfoldable pub check_move : ℕ → ℕ → Result Unit NotBuilt
 check_move n v =
-    pick (n == Status) (pick (built_status (low v)) Built NotBuilt)
-    (pick (n == PageMask) (pick (legal_mask (low v)) Built NotBuilt)
-    Built)
+    pick (n == Status) (pick (built_status (low v)) (Ok tt) (Err not_built))
+    (pick (n == PageMask) (pick (legal_mask (low v)) (Ok tt) (Err not_built))
+    (Ok tt))

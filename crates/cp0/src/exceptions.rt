@@ -4,49 +4,60 @@ ghost use Rattle.cp0.specs.Exceptions as E;
 
 use crate::{Bad, Cp0, Exception, Told};
 
-// What an exception without an address tells.
-fn plain(code: u32, unit: u32) -> Told
-    ensures { result ≡ E.tells code unit false Bad.Nothing }
-{
-    Told {
-        code,
-        unit,
-        refill: false,
-        bad: Bad::Nothing,
-    }
-}
-
-// What an exception with an address tells.
-fn of_address(code: u32, refill: bool, bad: Bad) -> Told
-    ensures { result ≡ E.tells code 0 refill bad }
-{
-    Told {
-        code,
-        unit: 0,
-        refill,
-        bad,
-    }
-}
+// What most exceptions tell beside their code.
+const PLAIN: Told = Told {
+    code: 0,
+    unit: 0,
+    refill: false,
+    bad: None,
+};
 
 // What an exception tells.
+#[tactic(auto, unfolding(crate::specs::Exceptions::told))]
 fn told(e: Exception) -> Told
     ensures { result ≡ E.told e }
 {
     match e {
-        Exception::Int => plain(0, 0),
-        Exception::Mod(v) => of_address(1, false, Bad::Page(v)),
-        Exception::TLBL { bad, refill } => of_address(2, refill, Bad::Page(bad)),
-        Exception::TLBS { bad, refill } => of_address(3, refill, Bad::Page(bad)),
-        Exception::AdEL(v) => of_address(4, false, Bad::Address(v)),
-        Exception::AdES(v) => of_address(5, false, Bad::Address(v)),
-        Exception::IBE => plain(6, 0),
-        Exception::DBE => plain(7, 0),
-        Exception::Sys => plain(8, 0),
-        Exception::Bp => plain(9, 0),
-        Exception::RI => plain(10, 0),
-        Exception::CpU(unit) => plain(11, (unit % 4) as u32),
-        Exception::Ov => plain(12, 0),
-        Exception::Tr => plain(13, 0),
+        Exception::Int => PLAIN,
+        Exception::Mod(v) => Told {
+            code: 1,
+            bad: Some(Bad::Page(v)),
+            ..PLAIN
+        },
+        Exception::TLBL { bad, refill } => Told {
+            code: 2,
+            refill,
+            bad: Some(Bad::Page(bad)),
+            ..PLAIN
+        },
+        Exception::TLBS { bad, refill } => Told {
+            code: 3,
+            refill,
+            bad: Some(Bad::Page(bad)),
+            ..PLAIN
+        },
+        Exception::AdEL(v) => Told {
+            code: 4,
+            bad: Some(Bad::Address(v)),
+            ..PLAIN
+        },
+        Exception::AdES(v) => Told {
+            code: 5,
+            bad: Some(Bad::Address(v)),
+            ..PLAIN
+        },
+        Exception::IBE => Told { code: 6, ..PLAIN },
+        Exception::DBE => Told { code: 7, ..PLAIN },
+        Exception::Sys => Told { code: 8, ..PLAIN },
+        Exception::Bp => Told { code: 9, ..PLAIN },
+        Exception::RI => Told { code: 10, ..PLAIN },
+        Exception::CpU(unit) => Told {
+            code: 11,
+            unit: u32::from(unit % 4),
+            ..PLAIN
+        },
+        Exception::Ov => Told { code: 12, ..PLAIN },
+        Exception::Tr => Told { code: 13, ..PLAIN },
     }
 }
 
@@ -86,24 +97,24 @@ fn cause_after(cause: u32, code: u32, unit: u32, bd: u32) -> u32
     bd * 0x8000_0000 + united % 0x8000_0000
 }
 
-// The registers with the address that an exception brings.
-fn addressed(cp0: Cp0, bad: Bad) -> Cp0
+// The registers with the address that an exception brings, if it brings one.
+#[tactic(auto, unfolding(crate::specs::Exceptions::addressed, crate::specs::Registers::set))]
+fn addressed(cp0: Cp0, bad: Option<Bad>) -> Cp0
     ensures { result ≡ E.addressed cp0 bad }
 {
-    let mut n = cp0;
     match bad {
-        Bad::Nothing => n,
-        Bad::Address(v) => {
-            n.badvaddr = v.0;
-            n
-        }
-        Bad::Page(v) => {
-            n.badvaddr = v.0;
-            n.context = cp0.context / 0x80_0000 % 0x200_0000_0000 * 0x80_0000
-                + v.0 / 0x2000 % 0x8_0000 * 16;
-            n.entryhi = v.0 / 0x2000 % 0x8_0000 * 0x2000 + cp0.entryhi % 256;
-            n
-        }
+        None => cp0,
+        Some(Bad::Address(v)) => Cp0 {
+            badvaddr: v.0,
+            ..cp0
+        },
+        Some(Bad::Page(v)) => Cp0 {
+            badvaddr: v.0,
+            context: cp0.context / 0x80_0000 % 0x200_0000_0000 * 0x80_0000
+                + v.0 / 0x2000 % 0x8_0000 * 16,
+            entryhi: v.0 / 0x2000 % 0x8_0000 * 0x2000 + cp0.entryhi % 256,
+            ..cp0
+        },
     }
 }
 
@@ -112,17 +123,14 @@ pub fn entered(cp0: Cp0, pc: u64, slot: bool, e: Exception) -> Cp0
     ensures { result ≡ E.entered cp0 pc slot e }
 {
     let t = told(e);
-    let mut n = cp0;
-    n.epc = epc_after(cp0.status, cp0.epc, pc, slot);
-    n.cause = cause_after(
-        cp0.cause,
-        t.code,
-        t.unit,
-        bd_after(cp0.status, cp0.cause, slot),
-    );
-    n.status = cp0.status / 4 * 4 + 2 + cp0.status % 2;
-    let bad = t.bad;
-    addressed(n, bad)
+    let bd = bd_after(cp0.status, cp0.cause, slot);
+    let n = Cp0 {
+        epc: epc_after(cp0.status, cp0.epc, pc, slot),
+        cause: cause_after(cp0.cause, t.code, t.unit, bd),
+        status: cp0.status / 4 * 4 + 2 + cp0.status % 2,
+        ..cp0
+    };
+    addressed(n, t.bad)
 }
 
 // The vector's offset.

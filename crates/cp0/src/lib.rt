@@ -60,26 +60,22 @@ pub enum Exception {
     Tr,
 }
 
-// Whether a move's value is built, or is stop 18.
+// A move's value is not built, which is stop 18.
 #[derive(Clone, Copy)]
-pub enum Move {
-    Built,
-    NotBuilt,
-}
+pub struct NotBuilt;
 
-// The address that an exception leaves: none; the one of an address error; the one of a TLB exception.
+// The address that an exception leaves: the one of an address error, or the one of a TLB exception.
 #[derive(Clone, Copy)]
 pub enum Bad {
-    Nothing,
     Address(VAddr),
     Page(VAddr),
 }
 
-// What an exception tells: its code, the unit for CE, whether it is a refill, and its address.
+// What an exception tells: its code, the unit for CE, whether it is a refill, and its address if it leaves one.
 #[derive(Clone, Copy)]
 pub struct Told {
     pub code: u32,
     pub unit: u32,
     pub refill: bool,
-    pub bad: Bad,
+    pub bad: Option<Bad>,
 }

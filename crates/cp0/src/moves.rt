@@ -6,7 +6,7 @@ use crate::registers::{
     kept_entryhi, kept_entrylo, kept_index, kept_status, kept_wired, low, wide,
 };
 use crate::status::cause_read;
-use crate::{Cp0, Move};
+use crate::{Cp0, NotBuilt};
 
 // A 32-bit register by its number; one that is not kept reads 0.
 fn word_of(cp0: Cp0, lines: u8, number: usize) -> u32
@@ -167,21 +167,15 @@ pub fn built_status(w: u32) -> bool
 }
 
 // Whether a move's value is built, by its low word.
-pub fn check_move(number: usize, value: u64) -> Move
+#[tactic(auto, unfolding(crate::specs::Moves::check_move))]
+pub fn check_move(number: usize, value: u64) -> Result<(), NotBuilt>
     ensures { result ≡ M.check_move number value }
 {
     let w = low(value);
-    if number == 12 {
-        if built_status(w) {
-            return Move::Built;
-        }
-        return Move::NotBuilt;
-    }
-    if number == 5 {
-        if tlb::legal_mask(wide(w)) {
-            return Move::Built;
-        }
-        return Move::NotBuilt;
-    }
-    Move::Built
+    let built = match number {
+        12 => built_status(w),
+        5 => tlb::legal_mask(u64::from(w)),
+        _ => true,
+    };
+    if built { Ok(()) } else { Err(NotBuilt) }
 }

@@ -1,27 +1,31 @@
 -- The image of files: refused, without room, or a text.
 use Prim.Native.Nat.{ℕ}
-use mathlib.Core.Path.{◌≡◌, sym, ap, ◌∙◌}
+use mathlib.Core.Path.{◌≡◌, refl, sym, ap, ◌∙◌}
 use mathlib.Core.List.{List}
-use native.Mathlib.Omega.{arith}
-use borrow.Author.Tests.{eq-eqb, ne_eqb}
+use Rattle.std.specs.Prelude.{Option, Some, None, Result, Ok, Err}
 use lib.ListN.{replicate}
 use lib.Seq.{sets}
 use Rattle.card.specs.declared.Machine.{Machine}
 use Rattle.card.specs.Machine.{fresh}
 use Rattle.place.specs.declared.Refusal.{Refusal}
-use Rattle.place.specs.declared.Made.{Made}
+use Rattle.place.specs.declared.Refusal.TheVariants.{NoRoom}
 use Rattle.place.specs.Plan.{Plan, plan, room, add_programs, kernel_pages, begun, plan_of}
 use Rattle.place.specs.Ram.{bytes_from, ram_of}
-use Rattle.place.specs.Made.{refusal, none, files_refusal, full_refusal, early, starts, written, text_of, made, answer, text_answer, made_of, out_after, Answered}
+use Rattle.place.specs.Made.{files_refusal, full_refusal, early, starts, written, text_of, text_answer, made_of, out_after, Answered}
+
+-- an Option that is no value is none
+pub not_some : (o : Option ℕ) → ((k : ℕ) → o ≡ Some k → ⊥) → o ≡ None
+not_some None f = refl
+not_some (Some k) f = absurd (f k refl)
 
 module _ (file : ℕ → List ℕ) (n : ℕ) where
   -- the plan and the RAM, with the kernel's pages counted
   module _ (kernel : ℕ) (k : kernel ≡ kernel_pages (file 0)) where
-    pub plan_is : (m : Machine) → m ≡ fresh → add_programs (plan (room 0 kernel 0) m.tlb (replicate 16 0)) file n 1 ≡ plan_of file n
+    pub plan_is : (m : Machine) → m ≡ fresh → add_programs (plan (room 0 kernel None) m.tlb (replicate 16 0)) file n 1 ≡ plan_of file n
     unfolding plan_of begun
     plan_is m e =
-        ap (λ (j : ℕ). add_programs (plan (room 0 j 0) m.tlb (replicate 16 0)) file n 1) k
-        ∙ ap (λ (x : Machine). add_programs (plan (room 0 (kernel_pages (file 0)) 0) x.tlb (replicate 16 0)) file n 1) e
+        ap (λ (j : ℕ). add_programs (plan (room 0 j None) m.tlb (replicate 16 0)) file n 1) k
+        ∙ ap (λ (x : Machine). add_programs (plan (room 0 (kernel_pages (file 0)) None) x.tlb (replicate 16 0)) file n 1) e
 
     pub ram_is : (p : Plan) → p ≡ plan_of file n → (all : ℕ) → all ≡ 65536 → bytes_from file kernel p.pages all 0 ≡ ram_of file n
     unfolding ram_of
@@ -32,40 +36,34 @@ module _ (file : ℕ → List ℕ) (n : ℕ) where
 
   module _ (settings out : List ℕ) where
     -- refused before a text is written
-    refuses : (r : Refusal) → early file n ≡ r → (r.number ≡ 0 → ⊥) → Answered (made r 0) out (made_of file n settings) (out_after file n settings out)
+    refuses : (r : Refusal) → early file n ≡ Err r → Answered (Err r) out (made_of file n settings) (out_after file n settings out)
     unfolding made_of out_after
-    refuses r e h = record { answer = simp (e, ne_eqb _ _ h); buffer = simp (e, ne_eqb _ _ h) }
+    refuses r e = record { answer = simp e; buffer = simp e }
 
-    module _ (r : Refusal) (e : r ≡ files_refusal file n) where
-      pub early_refused : (r.number ≡ 0 → ⊥) → (z : Made) → z ≡ answer r 0 → Answered z out (made_of file n settings) (out_after file n settings out)
-      unfolding early answer
-      early_refused h z g =
-          let by : early file n ≡ r = simp (sym e, ne_eqb _ _ h) in
-          let w = refuses r by h in
-          record { answer = g ∙ (simp (ne_eqb _ _ h) w.answer); buffer = w.buffer }
+    pub early_refused : (r : Refusal) → Err r ≡ files_refusal file n → Answered (Err r) out (made_of file n settings) (out_after file n settings out)
+    unfolding early
+    early_refused r e = refuses r (simp (sym e))
 
-      module _ (h : r.number ≡ 0) (p : Plan) (q : p ≡ plan_of file n) where
-        full_is : early file n ≡ full_refusal (file 0) p.room.full
-        unfolding early
-        full_is = simp (sym e, eq-eqb _ _ h, sym q)
+    module _ (u : Unit {0}) (e : Ok u ≡ files_refusal file n) (p : Plan) (q : p ≡ plan_of file n) where
+      full_is : early file n ≡ full_refusal (file 0) p.room.full
+      unfolding early
+      full_is = simp (sym e, sym q)
 
-        pub full_refused : (p.room.full ≡ 0 → ⊥) → (kernel : ℕ) → kernel ≡ kernel_pages (file 0) → Answered (made (refusal 18 p.room.full kernel) 0) out (made_of file n settings) (out_after file n settings out)
-        unfolding full_refusal
-        full_refused f kernel k = refuses _ (full_is ∙ simp (ne_eqb _ _ f, sym k)) (λ z. absurd (omega arith))
+      pub full_refused : (k : ℕ) → p.room.full ≡ Some k → (kernel : ℕ) → kernel ≡ kernel_pages (file 0) → Answered (Err (NoRoom k kernel)) out (made_of file n settings) (out_after file n settings out)
+      full_refused k f kernel g = refuses (NoRoom k kernel) (full_is ∙ simp (f, sym g))
 
-        module _ (f : p.room.full ≡ 0) (ram : List ℕ) (g : ram ≡ ram_of file n) (pc : ℕ) (s : pc ≡ starts file n) where
-          text_by : written p.tlb ram p.room.used n pc settings ≡ text_of file n settings
-          unfolding text_of
-          text_by = simp (sym q, sym g, sym s)
+      module _ (f : p.room.full ≡ None) (ram : List ℕ) (g : ram ≡ ram_of file n) (pc : ℕ) (s : pc ≡ starts file n) where
+        text_by : written p.tlb ram p.room.used n pc settings ≡ text_of file n settings
+        unfolding text_of
+        text_by = simp (sym q, sym g, sym s)
 
-          none_is : early file n ≡ none
-          unfolding full_refusal
-          none_is = full_is ∙ simp (eq-eqb _ _ f)
+        none_is : early file n ≡ Ok tt
+        none_is = full_is ∙ simp f
 
-          pub text_made_lem : (z : Made) (is : List ℕ) → Answered z is (text_answer p.tlb ram p.room.used n pc settings) (sets out 0 (written p.tlb ram p.room.used n pc settings)) → Answered z is (made_of file n settings) (out_after file n settings out)
-          unfolding made_of out_after
-          text_made_lem z is w =
-              record {
-                answer = w.answer ∙ simp (none_is, sym q, sym g, sym text_by);
-                buffer = w.buffer ∙ simp (none_is, sym text_by);
-              }
+        pub text_made_lem : (z : Result ℕ Refusal) (is : List ℕ) → Answered z is (text_answer p.tlb ram p.room.used n pc settings) (sets out 0 (written p.tlb ram p.room.used n pc settings)) → Answered z is (made_of file n settings) (out_after file n settings out)
+        unfolding made_of out_after
+        text_made_lem z is w =
+            record {
+              answer = w.answer ∙ simp (none_is, sym q, sym g, sym text_by);
+              buffer = w.buffer ∙ simp (none_is, sym text_by);
+            }

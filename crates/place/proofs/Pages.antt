@@ -3,6 +3,7 @@ use Prim.Native.Nat.{ℕ, ◌+◌, ◌*◌, ◌<◌, ◌≤◌}
 use mathlib.Core.Bool.{Bool, true, false}
 use mathlib.Core.Path.{◌≡◌, sym}
 use mathlib.Core.List.{List}
+use Rattle.std.specs.Prelude.{Option}
 use native.Mathlib.Omega.{arith}
 use borrow.Author.Tests.{eq-eqb, ne_eqb, lt-ltb, le-ltb}
 use lib.Dec.{eqb}
@@ -30,7 +31,7 @@ module _ (tlb pages : List ℕ) (r : Room) (asid page : ℕ) (writable : Bool) (
     unfolding add add_at again
     add_again lo p h = simp (sym e, ne_eqb _ _ h, p)
 
-    pub add_crowded : (full : ℕ) → full ≡ first_full r.full asid → get_or tlb (lo_at i page) 0 ≡ 0 → 16 ≤ r.next → plan (room r.used r.next full) tlb pages ≡ add (plan r tlb pages) asid page writable
+    pub add_crowded : (full : Option ℕ) → full ≡ first_full r.full asid → get_or tlb (lo_at i page) 0 ≡ 0 → 16 ≤ r.next → plan (room r.used r.next full) tlb pages ≡ add (plan r tlb pages) asid page writable
     unfolding add add_at crowded
     add_crowded full p h g = simp (sym e, eq-eqb _ _ h, le-ltb _ _ g, p)
 

@@ -4,6 +4,7 @@ use mathlib.Core.Bool.{Bool, true, false}
 use mathlib.Core.Bool as bool
 use mathlib.Core.Path.{◌≡◌, refl, sym, ap, ◌∙◌}
 use mathlib.Core.List.{List}
+use Rattle.std.specs.Prelude.{Option, Ok, Err}
 use native.Mathlib.Omega.{arith}
 use borrow.Author.Tests.{eq-eqb, ne_eqb, le-leb, lt-leb}
 use lib.Dec.{eqb}
@@ -19,10 +20,10 @@ use Rattle.image.specs.Image.{image_of, ram_after}
 use Rattle.answer.specs.Wrote.{Wrote}
 use Rattle.answer.specs.Placed.{placed_text}
 use Rattle.promise.specs.Pick.{not}
-use Rattle.place.specs.declared.Refusal.{Refusal}
-use Rattle.place.specs.declared.Made.{Made}
+use Rattle.place.specs.declared.Difference.{Difference}
+use Rattle.place.specs.declared.Refusal.TheVariants.{TooLong, NoImage}
 use Rattle.place.specs.Plan.{Plan, add_pages, add_segment, add_segments, add_all, stack, add, add_program, top_of, top_from, kernel_pages}
-use Rattle.place.specs.Made.{refusal, none, zeros, extended, starts, blank, undone, undone_refusal, read_refusal, kernel_refusal, programs_refusal, vector_refusal, files_refusal, made, answer, text_made, written, text_answer, Answered}
+use Rattle.place.specs.Made.{Verdict, none, or, zeros, extended, starts, blank, undone, undone_refusal, read_refusal, text_made, written, text_answer, Answered}
 
 -- a header's pages, one after the other
 pub segment_is : (p : Plan) (asid : ℕ) (file : List ℕ) (i : ℕ) (g : Pages) → g ≡ pages_at User file i → add_pages p asid g ≡ add_segment p asid file i
@@ -68,18 +69,9 @@ pub blank_last : (file : List ℕ) (p a b c d : ℕ) → a ≡ stands Kernel fil
 unfolding blank
 blank_last file p a b c d ea za eb zb ec zc ed = simp (sym ea, sym eb, sym ec, sym ed, eq-eqb _ _ za, eq-eqb _ _ zb, eq-eqb _ _ zc)
 
--- nothing was undone, or something was
-pub kept : (what : ℕ) → what ≡ 0 → none ≡ undone_refusal what
-unfolding undone_refusal
-kept what h = simp (eq-eqb _ _ h)
-
-pub lost : (what : ℕ) → (what ≡ 0 → ⊥) → refusal 21 0 what ≡ undone_refusal what
-unfolding undone_refusal
-lost what h = simp (ne_eqb _ _ h)
-
 -- what the reader makes of a text
 module _ (text : List ℕ) (n : ℕ) (tlb ram : List ℕ) (i : Image) (e : i ≡ image_of text zeros) where
-  pub unread : (i.number ≡ 0 → ⊥) → refusal 20 0 i.number ≡ read_refusal text n tlb ram
+  pub unread : (i.number ≡ 0 → ⊥) → Err (NoImage i.number) ≡ read_refusal text n tlb ram
   unfolding read_refusal
   unread h = simp (sym e, ne_eqb _ _ h)
 
@@ -88,7 +80,7 @@ module _ (text : List ℕ) (n : ℕ) (tlb ram : List ℕ) (i : Image) (e : i ≡
     unfolding read_refusal
     read_alone z = simp (sym e, eq-eqb _ _ h, eq-eqb _ _ z)
 
-    pub read_all : (n ≡ 0 → ⊥) → (held : List ℕ) → held ≡ ram_after text zeros → (what : ℕ) → what ≡ undone i.machine held tlb ram → undone_refusal what ≡ read_refusal text n tlb ram
+    pub read_all : (n ≡ 0 → ⊥) → (held : List ℕ) → held ≡ ram_after text zeros → (what : Option Difference) → what ≡ undone i.machine held tlb ram → undone_refusal what ≡ read_refusal text n tlb ram
     unfolding read_refusal
     read_all z held g what w = simp (sym e, eq-eqb _ _ h, ne_eqb _ _ z, sym g, w)
 
@@ -118,7 +110,7 @@ module _ (tlb ram : List ℕ) (used n pc : ℕ) (settings out : List ℕ) (user 
   filled : is ≡ sets out 0 text
   filled = w.filled ∙ ap (sets out 0) text_by
 
-  pub too_long : 65536 < end → Answered (made (refusal 19 0 end) 0) is (text_answer tlb ram used n pc settings) (sets out 0 (written tlb ram used n pc settings))
+  pub too_long : 65536 < end → Answered (Err (TooLong end)) is (text_answer tlb ram used n pc settings) (sets out 0 (written tlb ram used n pc settings))
   unfolding text text_made
   too_long h = record { answer = simp (ends, lt-leb end 65536 h); buffer = filled }
 
@@ -128,28 +120,10 @@ module _ (tlb ram : List ℕ) (used n pc : ℕ) (settings out : List ℕ) (user 
       ∙ ap (λ (k : ℕ). take k (sets out 0 text)) (sym ends)
       ∙ reads_back out text (omega (arith, ends))
 
-  pub text_is : length out ≡ 65536 → end ≤ 65536 → (r : Refusal) → r ≡ read_refusal (take end is) n tlb ram → (z : Made) → z ≡ answer r end → Answered z is (text_answer tlb ram used n pc settings) (sets out 0 (written tlb ram used n pc settings))
+  pub text_is : length out ≡ 65536 → end ≤ 65536 → (v : Verdict) → v ≡ read_refusal (take end is) n tlb ram → Answered (or v (Ok end)) is (text_answer tlb ram used n pc settings) (sets out 0 (written tlb ram used n pc settings))
   unfolding text text_made
-  text_is l h r e z g =
+  text_is l h v e =
       record {
-        answer = g ∙ ap (λ (s : Refusal). answer s end) (e ∙ ap (λ (t : List ℕ). read_refusal t n tlb ram) (read_is l h)) ∙ simp (ends, le-leb end 65536 h);
+        answer = ap (λ (s : Verdict). or s (Ok end)) (e ∙ ap (λ (t : List ℕ). read_refusal t n tlb ram) (read_is l h)) ∙ simp (ends, le-leb end 65536 h);
         buffer = filled;
       }
-
--- the first fault of the files
-module _ (file : ℕ → List ℕ) (n : ℕ) (f : List ℕ) (g : f ≡ file 0) (a : Refusal) (e : a ≡ kernel_refusal f n) where
-  kernel_is : kernel_refusal (file 0) n ≡ a
-  kernel_is = sym (e ∙ ap (λ (k : List ℕ). kernel_refusal k n) g)
-
-  pub by_kernel : (a.number ≡ 0 → ⊥) → a ≡ files_refusal file n
-  unfolding files_refusal
-  by_kernel h = simp (kernel_is, ne_eqb _ _ h)
-
-  module _ (h : a.number ≡ 0) (b : Refusal) (q : b ≡ programs_refusal file n 1) where
-    pub by_programs : (b.number ≡ 0 → ⊥) → b ≡ files_refusal file n
-    unfolding files_refusal
-    by_programs k = simp (kernel_is, eq-eqb _ _ h, sym q, ne_eqb _ _ k)
-
-    pub by_vectors : b.number ≡ 0 → (v : Refusal) → v ≡ vector_refusal f n → v ≡ files_refusal file n
-    unfolding files_refusal
-    by_vectors k v r = r ∙ ap (λ (l : List ℕ). vector_refusal l n) g ∙ simp (kernel_is, eq-eqb _ _ h, sym q, eq-eqb _ _ k)

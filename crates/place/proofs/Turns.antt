@@ -8,11 +8,10 @@ use native.Mathlib.Numerals.{add-one}
 use borrow.Author.Tests.{eq-eqb, ne_eqb}
 use lib.ListN.{length, get_or, set, take}
 use lib.Seq.{take_all, take-suc-set}
-use Rattle.elf.proofs.Turns.{turn, done}
-use Rattle.place.specs.declared.Refusal.{Refusal}
+use Rattle.elf.proofs.Turns.{turn, done, one_more, no_more}
 use Rattle.place.specs.Plan.{Plan, find, add, add_run, add_segment, add_segments, add_program, add_programs, higher, top_of, top_from}
 use Rattle.place.specs.Ram.{byte_at, bytes_from}
-use Rattle.place.specs.Made.{none, program_refusal, programs_refusal}
+use Rattle.place.specs.Made.{none, or, program_refusal, programs_refusal}
 
 module _ (tlb : List ℕ) (hi left i : ℕ) where
   pub find_here : 0 < left → get_or tlb (i * 4 + 1) 0 ≡ hi → find tlb hi left i ≡ i
@@ -72,19 +71,15 @@ module _ (file : List ℕ) (left i top : ℕ) where
   unfolding top_from
   top_done h = done (λ (n : ℕ). top_from file n i top) left h
 
-module _ (file : ℕ → List ℕ) (left k : ℕ) where
-  module _ (r : Refusal) (e : r ≡ program_refusal file k) (h : 0 < left) where
-    pub refused_here : (r.number ≡ 0 → ⊥) → programs_refusal file left k ≡ r
-    unfolding programs_refusal
-    refused_here n = turn (λ (m : ℕ). programs_refusal file m k) left h ∙ simp (sym e, ne_eqb _ _ n)
-
-    pub refused_next : r.number ≡ 0 → programs_refusal file left k ≡ programs_refusal file (left - 1) (k + 1)
-    unfolding programs_refusal
-    refused_next n = turn (λ (m : ℕ). programs_refusal file m k) left h ∙ simp (sym e, eq-eqb _ _ n)
-
-  pub refused_none : left ≤ 0 → programs_refusal file left k ≡ none
+-- the programs from number k on, below `past`
+module _ (file : ℕ → List ℕ) (past k : ℕ) where
+  pub refused_next : k < past → programs_refusal file (past - k) k ≡ or (program_refusal file k) (programs_refusal file (past - (k + 1)) (k + 1))
   unfolding programs_refusal
-  refused_none h = done (λ (m : ℕ). programs_refusal file m k) left h
+  refused_next h = one_more (λ (m : ℕ). programs_refusal file m k) past k h
+
+  pub refused_done : past ≤ k → programs_refusal file (past - k) k ≡ none
+  unfolding programs_refusal
+  refused_done h = no_more (λ (m : ℕ). programs_refusal file m k) past k h
 
 -- nothing is filled
 pub fill_none : (file : ℕ → List ℕ) (kernel : ℕ) (pages ram : List ℕ) (all : ℕ) → take 0 ram ++ bytes_from file kernel pages (all - 0) 0 ≡ bytes_from file kernel pages all 0

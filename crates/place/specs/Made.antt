@@ -1,5 +1,5 @@
 -- The image of a kernel and programs, or why there is none.
-use Rattle.std.specs.Prelude.{ℕ, zero, suc, ◌+◌, ◌^◌, Bool, true, false, List, [], ◌∷◌, ◌≡◌, eqb, leb, ltb, length, replicate}
+use Rattle.std.specs.Prelude.{ℕ, zero, suc, ◌+◌, ◌^◌, Bool, true, false, List, [], ◌∷◌, Option, Some, None, Result, Ok, Err, ◌≡◌, eqb, leb, ltb, length, replicate}
 use Rattle.std.proofs.lemmas.List.Edits.{sets}
 use Rattle.promise.specs.Pick.{pick, both, not}
 use Rattle.tlb.specs.Slot.{asid_of}
@@ -7,46 +7,92 @@ use Rattle.cp0.specs.declared.Cp0.{Cp0}
 use Rattle.cp0.specs.Status.{CU0, user}
 use Rattle.effect.specs.declared.Cpu.{Cpu}
 use Rattle.card.specs.declared.Machine.{Machine}
-use Rattle.elf.specs.declared.Fault.{Fault}
 use Rattle.elf.specs.declared.Space.TheVariants.{User, Kernel}
 use Rattle.elf.specs.Header.{entry}
 use Rattle.elf.specs.Home.{stands}
+use Rattle.elf.specs.Faults as E
 use Rattle.elf.specs.Faults.{file_fault, program_fault}
 use Rattle.image.specs.Image.{image_of, ram_after}
 use Rattle.answer.specs.Placed.{placed_text}
+use Rattle.place.specs.declared.Difference.{Difference}
+use Rattle.place.specs.declared.Difference.TheVariants.{Slots, Bytes, Mode, Cu0, Asid, Start}
 use Rattle.place.specs.declared.Refusal.{Refusal}
-use Rattle.place.specs.declared.Made.{Made}
+use Rattle.place.specs.declared.Refusal.TheVariants.{File, NoCode, NoRoom, TooLong, NoImage, Undone}
 use Rattle.place.specs.Plan.{kernel_pages, plan_of}
 use Rattle.place.specs.Ram.{ram_of}
 
--- a refusal, and none
-abbrev pub refusal : ℕ → ℕ → ℕ → Refusal
-refusal number file about = record { number = number; file = file; about = about }
+-- what was undone, by number (L27)
+abbrev pub difference_number : Difference → ℕ
+difference_number Slots = 1
+difference_number Bytes = 2
+difference_number Mode = 3
+difference_number Cu0 = 4
+difference_number Asid = 5
+difference_number Start = 6
 
-abbrev pub none : Refusal
-none = refusal 0 0 0
+-- the number of a refusal (L5 to L16, L23 to L27)
+abbrev pub number : Refusal → ℕ
+number (File k f) = E.number f
+number (NoCode v) = 17
+number (NoRoom k pages) = 18
+number (TooLong n) = 19
+number (NoImage n) = 20
+number (Undone d) = 21
 
--- the first of two
-abbrev pub or : Refusal → Refusal → Refusal
-or a b = pick (eqb a.number 0) b a
+-- the number of the file that it is of; 0 where it is of none (L2)
+abbrev pub file : Refusal → ℕ
+file (File k f) = k
+file (NoCode v) = 0
+file (NoRoom k pages) = k
+file (TooLong n) = 0
+file (NoImage n) = 0
+file (Undone d) = 0
+
+-- what it is about
+abbrev pub about : Refusal → ℕ
+about (File k f) = E.about f
+about (NoCode v) = v
+about (NoRoom k pages) = pages
+about (TooLong n) = n
+about (NoImage n) = n
+about (Undone d) = difference_number d
+
+-- whether something is refused
+abbrev pub Verdict : Type 0
+Verdict = Result (Unit {0}) Refusal
+
+-- it is not
+abbrev pub none : Verdict
+none = Ok tt
+
+-- a refusal, or what comes after it
+abbrev pub or : {A : Type 0} → Verdict → Result A Refusal → Result A Refusal
+or (Ok _) b = b
+or (Err r) b = Err r
+
+-- the number of an answer's refusal; 0 where there is none
+abbrev pub number_of : {A : Type 0} → Result A Refusal → ℕ
+number_of (Ok _) = 0
+number_of (Err r) = number r
 
 -- a fault of file k
-abbrev pub of_file : ℕ → Fault → Refusal
-of_file k f = pick (eqb f.number 0) none (refusal f.number k f.about)
+abbrev pub of_file : ℕ → E.Verdict → Verdict
+of_file k (Ok _) = none
+of_file k (Err f) = Err (File k f)
 
 -- the kernel's fault; alone, it is a program too (L4, L16)
-unfoldable pub kernel_fault : List ℕ → ℕ → Fault
+unfoldable pub kernel_fault : List ℕ → ℕ → E.Verdict
 kernel_fault file n = pick (eqb n 0) (program_fault Kernel file) (file_fault Kernel file)
 
-unfoldable pub kernel_refusal : List ℕ → ℕ → Refusal
+unfoldable pub kernel_refusal : List ℕ → ℕ → Verdict
 kernel_refusal file n = of_file 0 (kernel_fault file n)
 
 -- the fault of program k
-unfoldable pub program_refusal : (ℕ → List ℕ) → ℕ → Refusal
+unfoldable pub program_refusal : (ℕ → List ℕ) → ℕ → Verdict
 program_refusal file k = of_file k (program_fault User (file k))
 
 -- the first fault of `left` programs from program k on (L4)
-unfoldable pub programs_refusal : (ℕ → List ℕ) → ℕ → ℕ → Refusal
+unfoldable pub programs_refusal : (ℕ → List ℕ) → ℕ → ℕ → Verdict
 programs_refusal file zero k = none
 programs_refusal file (suc left) k = or (program_refusal file k) (programs_refusal file left (k + 1))
 
@@ -57,21 +103,22 @@ blank file p =
     (both (eqb (stands Kernel file (p + 1)) 0) (both (eqb (stands Kernel file (p + 2)) 0) (eqb (stands Kernel file (p + 3)) 0)))
 
 -- no code at a vector: refill at 0, every other exception at 180 (L23)
-unfoldable pub vector_refusal : List ℕ → ℕ → Refusal
+unfoldable pub vector_refusal : List ℕ → ℕ → Verdict
 vector_refusal file n =
     pick (eqb n 0) none
-    (pick (blank file 0) (refusal 17 0 0) (pick (blank file 0x180) (refusal 17 0 0x180) none))
+    (pick (blank file 0) (Err (NoCode 0)) (pick (blank file 0x180) (Err (NoCode 0x180)) none))
 
 -- what is refused of the files by themselves (L4)
-unfoldable pub files_refusal : (ℕ → List ℕ) → ℕ → Refusal
+unfoldable pub files_refusal : (ℕ → List ℕ) → ℕ → Verdict
 files_refusal file n = or (kernel_refusal (file 0) n) (or (programs_refusal file n 1) (vector_refusal (file 0) n))
 
--- a page finds no page of RAM (L24)
-unfoldable pub full_refusal : List ℕ → ℕ → Refusal
-full_refusal file full = pick (eqb full 0) none (refusal 18 full (kernel_pages file))
+-- a page of program k finds no page of RAM (L24)
+abbrev pub full_refusal : List ℕ → Option ℕ → Verdict
+full_refusal file None = none
+full_refusal file (Some k) = Err (NoRoom k (kernel_pages file))
 
 -- what is refused before a text is written
-unfoldable pub early : (ℕ → List ℕ) → ℕ → Refusal
+unfoldable pub early : (ℕ → List ℕ) → ℕ → Verdict
 early file n = or (files_refusal file n) (full_refusal (file 0) (plan_of file n).room.full)
 
 -- a word, sign-extended
@@ -101,60 +148,55 @@ same [] (y ∷ ys) = false
 same (x ∷ xs) [] = false
 same (x ∷ xs) (y ∷ ys) = both (eqb x y) (same xs ys)
 
--- what a machine has otherwise than User mode with CU0 clear, ASID 1 and a PC below 80000000, by number; 0 for nothing (L27)
-unfoldable pub unlike : Cpu → Cp0 → ℕ
+-- what a machine has otherwise than User mode with CU0 clear, ASID 1 and a PC below 80000000 (L27)
+unfoldable pub unlike : Cpu → Cp0 → Option Difference
 unlike cpu cp0 =
     pick (user cp0.status)
-    (pick (CU0 cp0.status) 4 (pick (eqb (asid_of cp0.entryhi) 1) (pick (ltb cpu.pc (2 ^ 31)) 0 6) 5))
-    3
+    (pick (CU0 cp0.status) (Some Cu0) (pick (eqb (asid_of cp0.entryhi) 1) (pick (ltb cpu.pc (2 ^ 31)) None (Some Start)) (Some Asid)))
+    (Some Mode)
 
 -- what a machine and the RAM that it holds have otherwise than this TLB and RAM; then what it is unlike (L27)
-unfoldable pub undone : Machine → List ℕ → List ℕ → List ℕ → ℕ
-undone m held tlb ram = pick (same m.tlb tlb) (pick (same held ram) (unlike m.cpu m.cp0) 2) 1
+unfoldable pub undone : Machine → List ℕ → List ℕ → List ℕ → Option Difference
+undone m held tlb ram = pick (same m.tlb tlb) (pick (same held ram) (unlike m.cpu m.cp0) (Some Bytes)) (Some Slots)
 
 -- RAM that is zeroed
 abbrev pub zeros : List ℕ
 zeros = replicate 65536 0
 
 -- SETTINGS undid it, or not
-unfoldable pub undone_refusal : ℕ → Refusal
-undone_refusal what = pick (eqb what 0) none (refusal 21 0 what)
+abbrev pub undone_refusal : Option Difference → Verdict
+undone_refusal None = none
+undone_refusal (Some d) = Err (Undone d)
 
 -- what is refused of a text by what the reader makes of it (L26, L27)
-unfoldable pub read_refusal : List ℕ → ℕ → List ℕ → List ℕ → Refusal
+unfoldable pub read_refusal : List ℕ → ℕ → List ℕ → List ℕ → Verdict
 read_refusal text n tlb ram =
     pick (eqb (image_of text zeros).number 0)
     (pick (eqb n 0) none (undone_refusal (undone (image_of text zeros).machine (ram_after text zeros) tlb ram)))
-    (refusal 20 0 (image_of text zeros).number)
+    (Err (NoImage (image_of text zeros).number))
 
--- an answer: a refusal, or the length of the text
-abbrev pub made : Refusal → ℕ → Made
-made r length = record { number = r.number; file = r.file; about = r.about; length = length }
-
--- of a refusal there is no text
-unfoldable pub answer : Refusal → ℕ → Made
-answer r length = pick (eqb r.number 0) (made r length) (made r 0)
-
--- of a text: longer than 65,536 bytes it is refused (L25)
-unfoldable pub text_made : List ℕ → ℕ → List ℕ → List ℕ → Made
+-- of a text, its length: longer than 65,536 bytes it is refused (L25)
+unfoldable pub text_made : List ℕ → ℕ → List ℕ → List ℕ → Result ℕ Refusal
 text_made text n tlb ram =
-    pick (leb (length text) 65536) (answer (read_refusal text n tlb ram) (length text)) (made (refusal 19 0 (length text)) 0)
+    pick (leb (length text) 65536) (or (read_refusal text n tlb ram) (Ok (length text))) (Err (TooLong (length text)))
 
-abbrev pub text_answer : List ℕ → List ℕ → ℕ → ℕ → ℕ → List ℕ → Made
+abbrev pub text_answer : List ℕ → List ℕ → ℕ → ℕ → ℕ → List ℕ → Result ℕ Refusal
 text_answer tlb ram used n pc settings = text_made (written tlb ram used n pc settings) n tlb ram
 
--- the answer (L4)
-unfoldable pub made_of : (ℕ → List ℕ) → ℕ → List ℕ → Made
-made_of file n settings =
-    pick (eqb (early file n).number 0)
-    (text_made (text_of file n settings) n (plan_of file n).tlb (ram_of file n))
-    (made (early file n) 0)
+-- the answer: the length of the text, or a refusal (L4)
+unfoldable pub made_of : (ℕ → List ℕ) → ℕ → List ℕ → Result ℕ Refusal
+made_of file n settings = or (early file n) (text_made (text_of file n settings) n (plan_of file n).tlb (ram_of file n))
+
+-- what a buffer has after a verdict: another where nothing was refused
+abbrev pub after : Verdict → List ℕ → List ℕ → List ℕ
+after (Ok _) written out = written
+after (Err r) written out = out
 
 -- and the lent buffer after it: it has the text, as far as it reaches, where nothing was refused before the text was written
 unfoldable pub out_after : (ℕ → List ℕ) → ℕ → List ℕ → List ℕ → List ℕ
-out_after file n settings out = pick (eqb (early file n).number 0) (sets out 0 (text_of file n settings)) out
+out_after file n settings out = after (early file n) (sets out 0 (text_of file n settings)) out
 
 -- an answer and a buffer are these
-pub record Answered (r : Made) (out : List ℕ) (made : Made) (after : List ℕ) : Type 0 where
+pub record Answered (r : Result ℕ Refusal) (out : List ℕ) (made : Result ℕ Refusal) (after : List ℕ) : Type 0 where
   pub answer : r ≡ made
   pub buffer : out ≡ after

@@ -1,5 +1,6 @@
 -- Which page of RAM each page of a program gets, and its slot and half of the TLB.
-use Rattle.std.specs.Prelude.{ℕ, zero, suc, ◌+◌, ◌*◌, ◌/◌, ◌%◌, Bool, true, List, eqb, leb, ltb, get_or, set, replicate}
+use Rattle.std.specs.Prelude.{ℕ, zero, suc, ◌+◌, ◌*◌, ◌/◌, ◌%◌, Bool, true, List, Option, Some, None, eqb, leb, ltb, get_or, set, replicate}
+use Rattle.std.specs.Option.{option_or}
 use Rattle.promise.specs.Pick.{pick}
 use Rattle.card.specs.Machine.{fresh}
 use Rattle.elf.specs.declared.Pages.{Pages}
@@ -21,7 +22,7 @@ pub record Plan : Type 0 where
 abbrev pub plan : Room → List ℕ → List ℕ → Plan
 plan r tlb pages = record { room = r; tlb = tlb; pages = pages }
 
-abbrev pub room : ℕ → ℕ → ℕ → Room
+abbrev pub room : ℕ → ℕ → Option ℕ → Room
 room used next full = record { used = used; next = next; full = full }
 
 -- EntryHi of a page's pair under an ASID: never global (L21)
@@ -54,8 +55,8 @@ unfoldable pub more : ℕ → ℕ → ℕ
 more used i = pick (eqb i used) (i + 1) used
 
 -- the first program that finds no page of RAM is kept in mind (L24)
-unfoldable pub first_full : ℕ → ℕ → ℕ
-first_full full asid = pick (eqb full 0) asid full
+abbrev pub first_full : Option ℕ → ℕ → Option ℕ
+first_full full asid = option_or full (Some asid)
 
 -- the next page of RAM is taken, and slot i is the page's pair's (L20, L21)
 unfoldable pub taken : Plan → ℕ → ℕ → Bool → ℕ → Plan
@@ -141,7 +142,7 @@ kernel_pages file = top_from file (count file) 0 0
 
 -- nothing but the kernel's pages is taken
 unfoldable pub begun : List ℕ → Plan
-begun file = plan (room 0 (kernel_pages file) 0) fresh.tlb (replicate ram_pages 0)
+begun file = plan (room 0 (kernel_pages file) None) fresh.tlb (replicate ram_pages 0)
 
 -- the plan of a kernel and n programs (L19 to L21)
 unfoldable pub plan_of : (ℕ → List ℕ) → ℕ → Plan

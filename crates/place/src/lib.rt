@@ -7,30 +7,37 @@ mod plan;
 mod ram;
 mod refusals;
 
+use elf::Fault;
 pub use making::image_text;
 pub use refusals::same_bytes;
 
-// What is taken: slots, pages of RAM; and the first program for which there was no page, 0 for none.
+// What is taken: slots, pages of RAM; and the first program for which there was no page.
 #[derive(Clone, Copy)]
 pub struct Room {
     pub used: usize,
     pub next: usize,
-    pub full: usize,
+    pub full: Option<usize>,
 }
 
-// Why there is no image: the number, the file's number, and what it is about; 0 where there is one.
+// What a machine has otherwise than what was placed, or than a User program is to start with.
 #[derive(Clone, Copy)]
-pub struct Refusal {
-    pub number: u8,
-    pub file: usize,
-    pub about: usize,
+pub enum Difference {
+    Slots,
+    Bytes,
+    Mode,
+    Cu0,
+    Asid,
+    Start,
 }
 
-// An answer: a refusal, or the length of the text.
+// Why there is no image: a fault of a file; no code at a vector; a program for which there is no page, after so many of the kernel's;
+// a text so long, or refused by the reader by this number; what SETTINGS undid.
 #[derive(Clone, Copy)]
-pub struct Made {
-    pub number: u8,
-    pub file: usize,
-    pub about: usize,
-    pub length: usize,
+pub enum Refusal {
+    File(usize, Fault),
+    NoCode(usize),
+    NoRoom(usize, usize),
+    TooLong(usize),
+    NoImage(u8),
+    Undone(Difference),
 }

@@ -60,16 +60,6 @@ fn more(used: usize, i: usize) -> usize
     used
 }
 
-// The first program that finds no page.
-fn first_full(full: usize, asid: usize) -> usize
-    ensures { result ≡ P.first_full full asid }
-{
-    if full == 0 {
-        return asid;
-    }
-    full
-}
-
 // The next page of RAM is taken.
 fn take(
     tlb: &mut [u64; 192],
@@ -127,7 +117,7 @@ fn add(
         return Room {
             used,
             next,
-            full: first_full(full, asid),
+            full: full.or(Some(asid)),
         };
     }
     take(&mut *tlb, &mut *pages, room, asid, page, writable, i)

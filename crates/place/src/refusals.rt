@@ -4,79 +4,102 @@ ghost use Rattle.card.specs.Machine.{machine};
 ghost use Rattle.place.specs.Files as F;
 ghost use Rattle.place.specs.Made as M;
 
-use crate::Refusal;
 use crate::files::file_at;
+use crate::{Difference, Refusal};
 use cp0::Cp0;
 use effect::Cpu;
 use elf::{Fault, Space};
 
-// No refusal.
-pub(crate) fn none() -> Refusal
-    ensures { result ≡ M.none }
-{
-    Refusal {
-        number: 0,
-        file: 0,
-        about: 0,
+impl Difference {
+    // Its number.
+    fn number(self) -> usize
+        ensures { result ≡ M.difference_number self }
+    {
+        match self {
+            Difference::Slots => 1,
+            Difference::Bytes => 2,
+            Difference::Mode => 3,
+            Difference::Cu0 => 4,
+            Difference::Asid => 5,
+            Difference::Start => 6,
+        }
+    }
+}
+
+impl Refusal {
+    // Its number.
+    pub fn number(self) -> u8
+        ensures { result ≡ M.number self }
+    {
+        match self {
+            Refusal::File(_, f) => f.number(),
+            Refusal::NoCode(_) => 17,
+            Refusal::NoRoom(_, _) => 18,
+            Refusal::TooLong(_) => 19,
+            Refusal::NoImage(_) => 20,
+            Refusal::Undone(_) => 21,
+        }
+    }
+
+    // The number of the file that it is of; 0 where it is of none.
+    pub fn file(self) -> usize
+        ensures { result ≡ M.file self }
+    {
+        match self {
+            Refusal::File(k, _) | Refusal::NoRoom(k, _) => k,
+            _ => 0,
+        }
+    }
+
+    // What it is about.
+    pub fn about(self) -> usize
+        ensures { result ≡ M.about self }
+    {
+        match self {
+            Refusal::File(_, f) => f.about(),
+            Refusal::NoCode(n) | Refusal::NoRoom(_, n) | Refusal::TooLong(n) => n,
+            Refusal::NoImage(n) => usize::from(n),
+            Refusal::Undone(d) => d.number(),
+        }
     }
 }
 
 // A fault of file k.
-fn of_file(k: usize, f: Fault) -> Refusal
-    ensures { result ≡ M.of_file k f }
+fn of_file(k: usize, v: Result<(), Fault>) -> Result<(), Refusal>
+    ensures { result ≡ M.of_file k v }
 {
-    if f.number == 0 {
-        return none();
-    }
-    Refusal {
-        number: f.number,
-        file: k,
-        about: f.about,
+    match v {
+        Ok(()) => Ok(()),
+        Err(f) => Err(Refusal::File(k, f)),
     }
 }
 
 // The kernel's fault; alone, it is a program too.
-fn kernel_fault(file: &[u8], n: u8) -> Fault
-    ensures { result ≡ M.kernel_fault file.now n }
-{
-    if n == 0 {
-        return elf::program_fault(Space::Kernel, file);
-    }
-    elf::file_fault(Space::Kernel, file)
-}
-
-// The kernel's fault as a refusal.
-fn kernel_refusal(file: &[u8], n: u8) -> Refusal
+fn kernel_refusal(file: &[u8], n: u8) -> Result<(), Refusal>
     ensures { result ≡ M.kernel_refusal file.now n }
 {
-    let f = kernel_fault(file, n);
-    of_file(0, f)
+    if n == 0 {
+        of_file(0, elf::program_fault(Space::Kernel, file))
+    } else {
+        of_file(0, elf::file_fault(Space::Kernel, file))
+    }
 }
 
 // The fault of program k.
-fn program_refusal(files: &[u8], ends: &[usize; 8], k: usize) -> Refusal
+fn program_refusal(files: &[u8], ends: &[usize; 8], k: usize) -> Result<(), Refusal>
     ensures { result ≡ M.program_refusal (F.file_at files.now ends.now) k }
 {
-    let file = file_at(files, ends, k);
-    let f = elf::program_fault(Space::User, file);
-    of_file(k, f)
+    of_file(k, elf::program_fault(Space::User, file_at(files, ends, k)))
 }
 
 // The first fault of the programs.
-fn programs_refusal(files: &[u8], ends: &[usize; 8], n: u8) -> Refusal
+fn programs_refusal(files: &[u8], ends: &[usize; 8], n: u8) -> Result<(), Refusal>
     ensures { result ≡ M.programs_refusal (F.file_at files.now ends.now) n 1 }
 {
-    let mut k: usize = 1;
-    let mut left = n;
-    while 0 < left {
-        let r = program_refusal(files, ends, k);
-        if r.number != 0 {
-            return r;
-        }
-        k += 1;
-        left -= 1;
+    for k in 1..n as usize + 1 {
+        program_refusal(files, ends, k)?;
     }
-    none()
+    Ok(())
 }
 
 // Whether the kernel's word at a physical address is 0.
@@ -97,42 +120,28 @@ fn blank(file: &[u8], p: usize) -> bool
 }
 
 // No code at a vector.
-fn vector_refusal(file: &[u8], n: u8) -> Refusal
+fn vector_refusal(file: &[u8], n: u8) -> Result<(), Refusal>
     ensures { result ≡ M.vector_refusal file.now n }
 {
     if n == 0 {
-        return none();
+        return Ok(());
     }
     if blank(file, 0) {
-        return Refusal {
-            number: 17,
-            file: 0,
-            about: 0,
-        };
+        return Err(Refusal::NoCode(0));
     }
     if blank(file, 0x180) {
-        return Refusal {
-            number: 17,
-            file: 0,
-            about: 0x180,
-        };
+        return Err(Refusal::NoCode(0x180));
     }
-    none()
+    Ok(())
 }
 
 // What is refused of the files by themselves.
-pub(crate) fn files_refusal(files: &[u8], ends: &[usize; 8], n: u8) -> Refusal
+pub(crate) fn files_refusal(files: &[u8], ends: &[usize; 8], n: u8) -> Result<(), Refusal>
     ensures { result ≡ M.files_refusal (F.file_at files.now ends.now) n }
 {
     let kernel = file_at(files, ends, 0);
-    let a = kernel_refusal(kernel, n);
-    if a.number != 0 {
-        return a;
-    }
-    let b = programs_refusal(files, ends, n);
-    if b.number != 0 {
-        return b;
-    }
+    kernel_refusal(kernel, n)?;
+    programs_refusal(files, ends, n)?;
     vector_refusal(kernel, n)
 }
 
@@ -170,29 +179,26 @@ pub fn same_bytes(a: &[u8], b: &[u8]) -> bool
     true
 }
 
-// What a machine has otherwise than User mode with CU0 clear, ASID 1 and a User PC, by number.
-fn unlike(cpu: Cpu, cp0: Cp0) -> usize
+// What a machine has otherwise than User mode with CU0 clear, ASID 1 and a User PC.
+fn unlike(cpu: Cpu, cp0: Cp0) -> Option<Difference>
     ensures { result ≡ M.unlike cpu cp0 }
 {
-    let status = cp0.status;
-    let entryhi = cp0.entryhi;
-    let pc = cpu.pc;
-    if !cp0::user(status) {
-        return 3;
+    if !cp0::user(cp0.status) {
+        return Some(Difference::Mode);
     }
-    if (status >> 28) % 2 == 1 {
-        return 4;
+    if (cp0.status >> 28) % 2 == 1 {
+        return Some(Difference::Cu0);
     }
-    if entryhi % 256 != 1 {
-        return 5;
+    if cp0.entryhi % 256 != 1 {
+        return Some(Difference::Asid);
     }
-    if pc < 0x80000000 {
-        return 0;
+    if cpu.pc < 0x80000000 {
+        return None;
     }
-    6
+    Some(Difference::Start)
 }
 
-// What a machine and its RAM have otherwise than was placed, by number.
+// What a machine and its RAM have otherwise than was placed.
 pub(crate) fn undone(
     cpu: Cpu,
     cp0: Cp0,
@@ -201,14 +207,14 @@ pub(crate) fn undone(
     held: &[u8],
     tlb: &[u64; 192],
     ram: &[u8],
-) -> usize
+) -> Option<Difference>
     ensures { result ≡ M.undone (machine cpu cp0 regs.now slots.now) held.now tlb.now ram.now }
 {
     if !same_slots(slots, tlb) {
-        return 1;
+        return Some(Difference::Slots);
     }
     if !same_bytes(held, ram) {
-        return 2;
+        return Some(Difference::Bytes);
     }
     unlike(cpu, cp0)
 }

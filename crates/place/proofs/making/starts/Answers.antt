@@ -4,13 +4,9 @@ use Rattle.elf.specs.Header.{entry}
 use Rattle.place.specs.Made.{extended}
 use Rattle.place.proofs.Texts.{starts_alone, starts_first}
 use Rattle.place.proofs.making.starts.Goals as goal
-
-pub returns-then-n-eq0 : goal.returns-then-n-eq0
-returns-then-n-eq0 c = c.extended.ensures
-    ∙ ap extended (c.entry.ensures.0 ∙ ap entry c.file_at-file.ensures)
-    ∙ starts_alone _ _ c.if-n-eq0.true
+use Rattle.place.proofs.making.starts.Goals.{then-n-eq0, else-n-eq0}
 
 pub returns : goal.returns
-returns c = c.extended-2.ensures
-    ∙ ap extended (c.entry-2.ensures.0 ∙ ap entry c.file_at-file-2.ensures)
-    ∙ starts_first _ _ c.if-n-eq0.false
+returns c =
+    c.extended.ensures ∙ ap extended (c.entry.ensures.0 ∙ ap entry c.file_at.ensures)
+    ∙ elim c.if-n-eq0.branch [ then-n-eq0 w ↦ rw w.first-is (starts_alone _ _ w.if-n-eq0.true) | else-n-eq0 w ↦ rw w.first-is (starts_first _ _ w.if-n-eq0.false) ]

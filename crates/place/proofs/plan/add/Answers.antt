@@ -8,7 +8,7 @@ returns-then-lo-ne0 c = (add_again _ _ _ _ _ _ _ c.find-i.ensures.0 _ c.granted.
 
 pub returns-then-next-ge-RAM_PAGES : goal.returns-then-next-ge-RAM_PAGES
 returns-then-next-ge-RAM_PAGES c = (
-  add_crowded _ _ _ _ _ _ _ c.find-i.ensures.0 _ c.first_full.ensures c.if-lo-ne0.false c.if-next-ge-RAM_PAGES.true,
+  add_crowded _ _ _ _ _ _ _ c.find-i.ensures.0 _ c.or.ensures c.if-lo-ne0.false c.if-next-ge-RAM_PAGES.true,
   record {
     used = c.requires.1.1.used;
     pages = c.requires.1.1.pages;

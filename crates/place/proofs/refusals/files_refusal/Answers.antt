@@ -1,12 +1,21 @@
 -- Each refusal in its order.
-use Rattle.place.proofs.Texts.{by_kernel, by_programs, by_vectors}
+use mathlib.Core.Path.{sym}
+use Rattle.std.proofs.lemmas.Result.{err_from_is_err_and}
+use Rattle.place.specs.Made.{files_refusal}
 use Rattle.place.proofs.refusals.files_refusal.Goals as goal
 
-pub returns-then-a-ne0 : goal.returns-then-a-ne0
-returns-then-a-ne0 c = by_kernel _ _ _ c.file_at-kernel.ensures _ c.kernel_refusal-a.ensures c.if-a-ne0.true
+pub returns-in_err-kernel_refusal : goal.returns-in_err-kernel_refusal
+unfolding files_refusal
+returns-in_err-kernel_refusal c =
+    let p = err_from_is_err_and c.from_residual.result c.from_residual.ensures.1 in
+    rw (p.1, p.2) (simp (sym c.file_at-kernel.ensures, sym c.in_err-kernel_refusal.ensures))
 
-pub returns-then-b-ne0 : goal.returns-then-b-ne0
-returns-then-b-ne0 c = by_programs _ _ _ c.file_at-kernel.ensures _ c.kernel_refusal-a.ensures c.if-a-ne0.false _ c.programs_refusal-b.ensures c.if-b-ne0.true
+pub returns-in_err-programs_refusal : goal.returns-in_err-programs_refusal
+unfolding files_refusal
+returns-in_err-programs_refusal c =
+    let p = err_from_is_err_and c.from_residual-in_err-programs_refusal.result c.from_residual-in_err-programs_refusal.ensures.1 in
+    rw (p.1, p.2) (simp (sym c.file_at-kernel.ensures, sym c.in_ok-kernel_refusal.ensures, sym c.in_err-programs_refusal.ensures))
 
 pub returns : goal.returns
-returns c = by_vectors _ _ _ c.file_at-kernel.ensures _ c.kernel_refusal-a.ensures c.if-a-ne0.false _ c.programs_refusal-b.ensures c.if-b-ne0.false _ c.vector_refusal.ensures
+unfolding files_refusal
+returns c = simp (sym c.file_at-kernel.ensures, sym c.in_ok-kernel_refusal.ensures, sym c.in_ok-programs_refusal.ensures, sym c.vector_refusal.ensures)

@@ -1,16 +1,16 @@
-use native.Mathlib.Omega.{arith}
-use mathlib.Core.Path.{refl, sym, ◌∙◌}
-use Rattle.place.proofs.Turns.{refused_here, refused_next, refused_none}
+-- The first fault of the programs left is that of all.
+use mathlib.Core.Path.{sym, ◌∙◌}
+use Rattle.std.proofs.lemmas.Result.{err_from_is_err_and}
+use Rattle.place.proofs.Turns.{refused_next, refused_done}
 use Rattle.place.proofs.refusals.programs_refusal.Goals as goal
 
-pub loop-left-init : goal.loop-left-init
-loop-left-init c = (omega arith, refl)
+pub returns-in_err-program_refusal : goal.returns-in_err-program_refusal
+returns-in_err-program_refusal c =
+    let p = err_from_is_err_and c.from_residual.result c.from_residual.ensures.1 in
+    rw (p.1, p.2) (sym (c.loop-k.invariant ∙ refused_next _ _ _ c.loop-k-test.true ∙ simp (sym c.in_err-program_refusal.ensures)))
 
-pub returns-then-r-ne0 : goal.returns-then-r-ne0
-returns-then-r-ne0 c = sym (sym c.loop-left.invariant.1 ∙ refused_here _ _ _ _ c.program_refusal-r.ensures c.loop-left-test.true c.if-r-ne0.true)
-
-pub loop-left-preserved : goal.loop-left-preserved
-loop-left-preserved c = (omega arith, sym (refused_next _ _ _ _ c.program_refusal-r.ensures c.loop-left-test.true c.if-r-ne0.false) ∙ c.loop-left.invariant.1)
+pub loop-k-preserved : goal.loop-k-preserved
+loop-k-preserved c = c.loop-k.invariant ∙ refused_next _ _ _ c.loop-k-test.true ∙ simp (sym c.in_ok-program_refusal.ensures)
 
 pub returns : goal.returns
-returns c = c.none.ensures ∙ sym (refused_none _ _ _ c.loop-left-test.false) ∙ c.loop-left.invariant.1
+returns c = sym (c.loop-k.invariant ∙ refused_done _ _ _ c.loop-k-test.false)

@@ -1,12 +1,9 @@
 -- The invariant: the first fault of the programs left is that of all.
 use mathlib.Core.Path.{◌≡◌}
-use Prim.Native.Nat.{◌+◌}
+use Prim.Native.Nat.{◌-◌}
 use Rattle.place.specs.Files.{file_at}
 use Rattle.place.specs.Made.{programs_refusal}
 use Rattle.place.proofs.refusals.programs_refusal.Given as goal
 
-abbrev pub invariant-loop-left : goal.invariant-loop-left
-invariant-loop-left l = (l.k + l.left ≡ l.n + 1) × (programs_refusal (file_at l.files l.ends) l.left l.k ≡ programs_refusal (file_at l.files l.ends) l.n 1)
-
-abbrev pub decreases-loop-left : goal.decreases-loop-left
-decreases-loop-left l = l.left
+abbrev pub invariant-loop-k : goal.invariant-loop-k
+invariant-loop-k l = programs_refusal (file_at l.files l.ends) l.n 1 ≡ programs_refusal (file_at l.files l.ends) (l.k-end - l.k) l.k

@@ -6,7 +6,7 @@ use Rattle.place.proofs.refusals.vector_refusal.Goals as goal
 
 pub returns-then-n-eq0 : goal.returns-then-n-eq0
 unfolding vector_refusal
-returns-then-n-eq0 c = simp (eq-eqb _ _ c.if-n-eq0.true, c.none.ensures)
+returns-then-n-eq0 c = simp (eq-eqb _ _ c.if-n-eq0.true)
 
 pub returns-then-blank : goal.returns-then-blank
 unfolding vector_refusal
@@ -18,4 +18,4 @@ returns-then-blank-2 c = simp (ne_eqb _ _ c.if-n-eq0.false, sym c.blank.ensures 
 
 pub returns : goal.returns
 unfolding vector_refusal
-returns c = simp (ne_eqb _ _ c.if-n-eq0.false, sym c.blank.ensures ∙ c.if-blank.false, sym c.blank-2.ensures ∙ c.if-blank-2.false, c.none-2.ensures)
+returns c = simp (ne_eqb _ _ c.if-n-eq0.false, sym c.blank.ensures ∙ c.if-blank.false, sym c.blank-2.ensures ∙ c.if-blank-2.false)

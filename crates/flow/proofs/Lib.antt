@@ -1,3 +1,2 @@
--- What is proved besides the functions: a law of wrapping sums, and that no contract admits two results.
-pub mod Wrapping
+-- What is proved besides the functions: that no contract admits two results.
 pub mod Once

@@ -6,14 +6,16 @@ use crate::Act;
 use decode::{JumpOp, JumpRegisterOp};
 
 // Where J and JAL lead: bits 63..28 of the slot's address, then the word's twenty-six bits, then two zeros.
+#[tactic(auto, unfolding(crate::specs::Jumps::jump_target))]
 fn jump_target(pc: u64, target: u64) -> u64
     ensures { result ≡ Jumps.jump_target pc target }
 {
-    let slot = std::num::wrapping_add_u64(pc, 4);
+    let slot = pc.wrapping_add(4);
     slot / 0x1000_0000 * 0x1000_0000 + target % 0x400_0000 * 4
 }
 
 // J and JAL.
+#[tactic(auto, unfolding(crate::specs::Jumps::jump))]
 pub fn jump(op: JumpOp, pc: u64, target: u64) -> Act
     ensures { result ≡ Jumps.jump op pc target }
 {
@@ -25,6 +27,7 @@ pub fn jump(op: JumpOp, pc: u64, target: u64) -> Act
 }
 
 // JR and JALR, to the value of rs.
+#[tactic(auto, unfolding(crate::specs::Jumps::jump_register))]
 pub fn jump_register(op: JumpRegisterOp, rs: u64, rd: usize) -> Act
     ensures { result ≡ Jumps.jump_register op rs rd }
 {

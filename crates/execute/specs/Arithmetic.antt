@@ -1,8 +1,6 @@
 -- Sums, differences and comparisons of the values of rs and rt, or of rs and the immediate, which is sign-extended in all of them.
-use Rattle.std.specs.Prelude.{ℕ}
+use Rattle.std.specs.Prelude.{ℕ, Option, Some, None}
 use Rattle.word.specs.Word as word
-use Rattle.word.specs.declared.Sum.{Sum}
-use Rattle.word.specs.declared.Sum.TheVariants.{Fits, Overflow}
 use Rattle.cp0.specs.declared.Exception.TheVariants.{Ov}
 use Rattle.decode.specs.declared.ArithmeticOp.{ArithmeticOp}
 use Rattle.decode.specs.declared.ArithmeticOp.TheVariants.{ADD, ADDU, SUB, SUBU, DADD, DADDU, DSUB, DSUBU, SLT, SLTU}
@@ -12,9 +10,9 @@ use Rattle.flow.specs.declared.Act.{Act}
 use Rattle.flow.specs.declared.Act.TheVariants.{Write, Raise}
 
 -- a sum that fits is written; one that does not raises Integer Overflow, and nothing is written (A3)
-unfoldable pub trapping : ℕ → Sum → Act
-trapping reg (Fits value) = Write reg value
-trapping reg Overflow = Raise Ov
+unfoldable pub trapping : ℕ → Option ℕ → Act
+trapping reg (Some value) = Write reg value
+trapping reg None = Raise Ov
 
 -- The register forms write rd.
 unfoldable pub arithmetic : ArithmeticOp → ℕ → ℕ → ℕ → Act

@@ -11,7 +11,6 @@ mod traps; // traps.rt: comparisons that raise Trap
 
 ghost use Rattle.std.specs.Prelude.{◌≡◌};
 ghost use Rattle.execute.specs.Execute as Execute;
-ghost use Rattle.flow.specs.declared.Act.TheVariants as act;
 
 use arithmetic::{arithmetic, arithmetic_immediate};
 use decode::{Instr, TlbOp};
@@ -49,14 +48,8 @@ pub enum Executed {
     Command(Command),
 }
 
-// A register is written.
-fn write(reg: usize, value: u64) -> Act
-    ensures { result ≡ act.Write reg value }
-{
-    Act::Write { reg, value }
-}
-
 // What an instruction comes to, from PC, the values of the registers that its rs and rt fields name, HI and LO.
+#[tactic(auto, unfolding(crate::specs::Execute::execute))]
 pub fn execute(i: Instr, pc: u64, rs: u64, rt: u64, hi: u64, lo: u64) -> Executed
     ensures { result ≡ Execute.execute i pc rs rt hi lo }
 {

@@ -8,6 +8,7 @@ use decode::{MoveOp, SpecialOp};
 use flow::Act;
 
 // System call and breakpoint raise, SYNC does nothing.
+#[tactic(auto, unfolding(crate::specs::System::special))]
 pub fn special(op: SpecialOp) -> Act
     ensures { result ≡ System.special op }
 {
@@ -19,6 +20,7 @@ pub fn special(op: SpecialOp) -> Act
 }
 
 // A move between register rt, whose value is `value`, and the CP0 register rd.
+#[tactic(auto, unfolding(crate::specs::System::move_cp0))]
 pub fn move_cp0(op: MoveOp, value: u64, rt: usize, rd: usize) -> Command
     ensures { result ≡ System.move_cp0 op value rt rd }
 {

@@ -1,82 +1,70 @@
--- Of one line, 6, 7, 8 or 0 is given exactly in its case (N14, N16).
+-- Of one line, 6, 7, 8 or none is given exactly in its case (N14, N16).
 use Prim.Native.Nat.{ℕ, ◌≤◌}
 use mathlib.Core.Bool.{Bool, true, false}
-use mathlib.Core.Logic.{◌⊎◌, inl, inr}
 use mathlib.Core.Path.{◌≡◌, refl}
 use native.Mathlib.Omega.{arith}
+use Rattle.std.specs.Prelude.{Option, Some, None}
+use Rattle.std.specs.Option.{IsSomeAnd}
+use Rattle.std.proofs.lemmas.Option.{same_Some}
 use Rattle.promise.specs.Pick.{pick}
 use Rattle.frame.specs.declared.Frame.{Frame}
 use Rattle.image.specs.Allowed.{allowed}
-use Rattle.image.specs.Refusals.{is_frame, refusal_of}
+use Rattle.image.specs.Refusals.{refusal_of}
 
--- three tests in order, and the number that they give
-abbrev tested : Bool → Bool → Bool → ℕ
-tested x y z = pick x (pick y (pick z 8 0) 7) 6
+-- a frame whose value is allowed, and one whose value is not
+abbrev pub Good : Option Frame → Type 0
+Good f = IsSomeAnd f (λ (g : Frame). allowed g ≡ true)
 
-six : (x y z : Bool) → tested x y z ≡ 6 → x ≡ false
-six true true true h = let n : ⊥ = omega arith in absurd n
-six true true false h = let n : ⊥ = omega arith in absurd n
-six true false z h = let n : ⊥ = omega arith in absurd n
-six false y z h = refl
+abbrev pub Bad : Option Frame → Type 0
+Bad f = IsSomeAnd f (λ (g : Frame). allowed g ≡ false)
 
-seven : (x y z : Bool) → tested x y z ≡ 7 → (x ≡ true) × (y ≡ false)
-seven true true true h = let n : ⊥ = omega arith in absurd n
-seven true true false h = let n : ⊥ = omega arith in absurd n
-seven true false z h = (refl, refl)
-seven false y z h = let n : ⊥ = omega arith in absurd n
+-- what the number that a line gives says of it
+pub record Given (after : Bool) (f : Option Frame) (number : ℕ) : Type 0 where
+  pub six : number ≡ 6 → f ≡ None
+  pub seven : number ≡ 7 → Bad f
+  pub eight : number ≡ 8 → Good f × (after ≡ true)
+  pub among : (6 ≤ number) × (number ≤ 8)
 
-eight : (x y z : Bool) → tested x y z ≡ 8 → (x ≡ true) × ((y ≡ true) × (z ≡ true))
-eight true true true h = (refl, (refl, refl))
-eight true true false h = let n : ⊥ = omega arith in absurd n
-eight true false z h = let n : ⊥ = omega arith in absurd n
-eight false y z h = let n : ⊥ = omega arith in absurd n
+module _ (g : Frame) where
+  given_frame : (x y : Bool) (number : ℕ) → allowed g ≡ x → pick x (pick y (Some 8) None) (Some 7) ≡ Some number → Given y (Some g) number
+  given_frame true true number p h =
+      let e : 8 ≡ number = same_Some _ _ h in
+      record { six = λ z. absurd (omega arith); seven = λ z. absurd (omega arith); eight = λ z. (p, refl); among = (omega arith, omega arith) }
+  given_frame true false number p h = absurd (none h)
+    where
+      none : None ≡ Some number → ⊥
+      none e = cc
+  given_frame false y number p h =
+      let e : 7 ≡ number = same_Some _ _ h in
+      record { six = λ z. absurd (omega arith); seven = λ z. p; eight = λ z. absurd (omega arith); among = (omega arith, omega arith) }
 
-none_of : (x y z : Bool) → tested x y z ≡ 0 → (x ≡ true) × ((y ≡ true) × (z ≡ false))
-none_of true true true h = let n : ⊥ = omega arith in absurd n
-none_of true true false h = (refl, (refl, refl))
-none_of true false z h = let n : ⊥ = omega arith in absurd n
-none_of false y z h = let n : ⊥ = omega arith in absurd n
+  passed_frame : (x y : Bool) → allowed g ≡ x → pick {A = Option ℕ} x (pick y (Some 8) None) (Some 7) ≡ None → (allowed g ≡ true) × (y ≡ false)
+  passed_frame true true p h = absurd (cc)
+  passed_frame true false p h = (p, refl)
+  passed_frame false y p h = absurd (cc)
 
--- no other number
-among : (x y z : Bool) → (tested x y z ≡ 0) ⊎ ((6 ≤ tested x y z) × (tested x y z ≤ 8))
-among true true true = inr (omega arith, omega arith)
-among true true false = inl refl
-among true false z = inr (omega arith, omega arith)
-among false y z = inr (omega arith, omega arith)
+pub given : (after : Bool) (f : Option Frame) (number : ℕ) → refusal_of after f ≡ Some number → Given after f number
+given after None number h =
+    let e : 6 ≡ number = same_Some _ _ h in
+    record { six = λ z. refl; seven = λ z. absurd (omega arith); eight = λ z. absurd (omega arith); among = (omega arith, omega arith) }
+given after (Some g) number h = given_frame g (allowed g) after number refl h
 
-module _ (after : Bool) (f : Frame) where
-  pub given_6 : refusal_of after f ≡ 6 → is_frame f ≡ false
-  unfolding refusal_of
-  given_6 h = six (is_frame f) (allowed f) after h
+-- a line that gives none passes
+pub passed : (after : Bool) (f : Option Frame) → refusal_of after f ≡ None → Good f × (after ≡ false)
+passed after None h = absurd (cc)
+passed after (Some g) h = passed_frame g (allowed g) after refl h
 
-  pub gives_6 : is_frame f ≡ false → refusal_of after f ≡ 6
-  unfolding refusal_of
-  gives_6 p = simp p
+pub gives_6 : (after : Bool) (f : Option Frame) → f ≡ None → refusal_of after f ≡ Some 6
+gives_6 after f e = rw e
 
-  pub given_7 : refusal_of after f ≡ 7 → (is_frame f ≡ true) × (allowed f ≡ false)
-  unfolding refusal_of
-  given_7 h = seven (is_frame f) (allowed f) after h
+pub gives_7 : (after : Bool) (f : Option Frame) → Bad f → refusal_of after f ≡ Some 7
+gives_7 after None p = elim p [ ]
+gives_7 after (Some g) p = simp p
 
-  pub gives_7 : is_frame f ≡ true → allowed f ≡ false → refusal_of after f ≡ 7
-  unfolding refusal_of
-  gives_7 p q = simp (p, q)
+pub gives_8 : (after : Bool) (f : Option Frame) → Good f → after ≡ true → refusal_of after f ≡ Some 8
+gives_8 after None p e = elim p [ ]
+gives_8 after (Some g) p e = simp (p, e)
 
-  pub given_8 : refusal_of after f ≡ 8 → (is_frame f ≡ true) × ((allowed f ≡ true) × (after ≡ true))
-  unfolding refusal_of
-  given_8 h = eight (is_frame f) (allowed f) after h
-
-  pub gives_8 : is_frame f ≡ true → allowed f ≡ true → after ≡ true → refusal_of after f ≡ 8
-  unfolding refusal_of
-  gives_8 p q r = simp (p, q, r)
-
-  pub given_0 : refusal_of after f ≡ 0 → (is_frame f ≡ true) × ((allowed f ≡ true) × (after ≡ false))
-  unfolding refusal_of
-  given_0 h = none_of (is_frame f) (allowed f) after h
-
-  pub gives_0 : is_frame f ≡ true → allowed f ≡ true → after ≡ false → refusal_of after f ≡ 0
-  unfolding refusal_of
-  gives_0 p q r = simp (p, q, r)
-
-  pub line_among : (refusal_of after f ≡ 0) ⊎ ((6 ≤ refusal_of after f) × (refusal_of after f ≤ 8))
-  unfolding refusal_of
-  line_among = among (is_frame f) (allowed f) after
+pub gives_none : (after : Bool) (f : Option Frame) → Good f → after ≡ false → refusal_of after f ≡ None
+gives_none after None p e = elim p [ ]
+gives_none after (Some g) p e = simp (p, e)

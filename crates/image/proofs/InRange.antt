@@ -9,11 +9,12 @@ use lib.Count.{ones, count_trailing_zeros}
 use lib.Dec.{eqb, ltb, leb}
 use lib.ListN.{length, get_or, set, length-set}
 use lib.Seq.{get_or-set_other}
+use Rattle.std.specs.Prelude.{Option, Some, None}
 use Rattle.promise.specs.Pick.{both, either}
 use Rattle.frame.specs.Line.{Lines, done, unended, line, lines_of}
 use Rattle.frame.specs.Frame.{HI, LO, PC, frame_of}
 use Rattle.frame.specs.declared.Frame.{Frame}
-use Rattle.frame.specs.declared.Frame.TheVariants.{Register, Memory, Budget, Cp0, Slot, NotFrame}
+use Rattle.frame.specs.declared.Frame.TheVariants.{Register, Memory, Budget, Cp0, Slot}
 use Rattle.tlb.specs.declared.SlotWrite.TheVariants.{Put}
 use Rattle.tlb.specs.declared.Slot as entry
 use Rattle.tlb.specs.PageMask.{trailing_ones, legal_mask}
@@ -31,9 +32,11 @@ use Rattle.effect.specs.declared.Cpu.{Cpu}
 use Rattle.card.specs.declared.Machine.{Machine}
 use Rattle.card.specs.Machine.{fresh, fresh_slots, in_range, cpu_in_range}
 use Rattle.image.specs.Allowed.{built, register_allowed, move_allowed, slot_allowed, allowed}
-use Rattle.image.specs.Refusals.{is_frame, is_budget, refusal_of, first_of, image_refusal, size}
-use Rattle.image.specs.Acts.{regs_set, cpu_set, moved, Loaded, act, acts}
-use Rattle.image.specs.Image.{loaded_by, image_of}
+use Rattle.image.specs.declared.Refusal.{Refusal}
+use Rattle.image.specs.Refusals.{refusal, is_budget, refusal_of, first_of, image_refusal, size}
+use Rattle.image.specs.Acts.{regs_set, cpu_set, moved, Loaded, act, line_act, acts}
+use Rattle.image.specs.Image.{image_by, loaded_by, image_of}
+use Rattle.image.proofs.Cases.{Good, passed}
 
 pub false_not_true : false ≡ true → ⊥
 false_not_true e = let z : ◌≡◌ {A = ℕ} 0 1 = cc in omega arith
@@ -123,46 +126,43 @@ act_sound (Slot index mask hi lo0 lo1) s a h =
       tlb = put_in_range s.machine.tlb (Put index (moved mask hi lo0 lo1)) h.slots h.tlb (both_true (leb index 0x2f) (legal_mask mask) a).1;
       slots = slots_by s.machine.tlb index (moved mask hi lo0 lo1) (ltb index 48) refl ∙ h.slots;
     }
-act_sound NotFrame s a h = h
 
--- a line that passes is allowed
-passes : (after : Bool) (f : Frame) (x y : Bool) → is_frame f ≡ x → allowed f ≡ y → refusal_of after f ≡ 0 → allowed f ≡ true
-unfolding refusal_of
-passes after f x true p q h = q
-passes after f true false p q h = let z : ◌≡◌ {A = ℕ} 7 0 = simp (p, q) at h in absurd (omega arith)
-passes after f false false p q h = let z : ◌≡◌ {A = ℕ} 6 0 = simp p at h in absurd (omega arith)
+-- a line that passes keeps it sound
+line_sound : (f : Option Frame) (s : Loaded) → Good f → Sound s.machine → Sound (line_act s f).machine
+line_sound None s a h = elim a [ ]
+line_sound (Some f) s a h = act_sound f s a h
 
 Keeps : Lines → Type 0
-Keeps ls = (n : ℕ) (after : Bool) (s : Loaded) → (first_of ls n after).number ≡ 0 → Sound s.machine → Sound (acts ls s).machine
+Keeps ls = (n : ℕ) (after : Bool) (s : Loaded) → first_of ls n after ≡ None → Sound s.machine → Sound (acts ls s).machine
 
-keeps_line : (l : List ℕ) (ls : Lines) → Keeps ls → (n : ℕ) (after : Bool) (t : Bool) → eqb (refusal_of after (frame_of l)) 0 ≡ t → (s : Loaded) → (first_of (line l ls) n after).number ≡ 0 → Sound s.machine → Sound (acts (line l ls) s).machine
+keeps_line : (l : List ℕ) (ls : Lines) → Keeps ls → (n : ℕ) (after : Bool) (r : Option ℕ) → refusal_of after (frame_of l) ≡ r → (s : Loaded) → first_of (line l ls) n after ≡ None → Sound s.machine → Sound (acts (line l ls) s).machine
 unfolding Keeps first_of acts
-keeps_line l ls later n after true e s z h =
-    later (n + 1) (either after (is_budget (frame_of l))) (act s (frame_of l)) (simp e at z)
-    (act_sound (frame_of l) s (passes after (frame_of l) (is_frame (frame_of l)) (allowed (frame_of l)) refl refl (eqb-true _ _ e)) h)
-keeps_line l ls later n after false e s z h = absurd (eqb-false _ _ e (simp e at z))
+keeps_line l ls later n after None e s z h =
+    later (n + 1) (either after (is_budget (frame_of l))) (line_act s (frame_of l)) (simp e at z)
+    (line_sound (frame_of l) s (passed after (frame_of l) e).0 h)
+keeps_line l ls later n after (Some k) e s z h = let w : Some (refusal k n) ≡ None = simp e at z in absurd (cc)
 
 keeps : (ls : Lines) → Keeps ls
 unfolding Keeps first_of acts
 keeps done = λ n after s z h. h
-keeps (unended l) = λ n after s z h. absurd (let w : ◌≡◌ {A = ℕ} 6 0 = z in omega arith)
-keeps (line l ls) = λ n after s z h. keeps_line l ls (keeps ls) n after (eqb (refusal_of after (frame_of l)) 0) refl s z h
+keeps (unended l) = λ n after s z h. absurd (let w : Some (refusal 6 n) ≡ None = z in cc)
+keeps (line l ls) = λ n after s z h. keeps_line l ls (keeps ls) n after (refusal_of after (frame_of l)) refl s z h
+
+-- whatever the refusal, an image is in range where what its frames leave is
+by_sound : (r : Option Refusal) (l : Loaded) → (r ≡ None → Sound l.machine) → in_range (image_by r l).machine ≡ true
+by_sound None l h = sound_in l.machine (h refl)
+by_sound (Some r) l h = sound_in fresh fresh_sound
 
 module _ (text ram : List ℕ) where
-  lines_pass : (x y : Bool) → eqb (length ram) size ≡ x → leb (length text) size ≡ y → (image_refusal text ram).number ≡ 0 → (first_of (lines_of text) 1 false).number ≡ 0
+  lines_pass : (x y : Bool) → eqb (length ram) size ≡ x → leb (length text) size ≡ y → image_refusal text ram ≡ None → first_of (lines_of text) 1 false ≡ None
   unfolding image_refusal
   lines_pass true true p q h = simp (p, q) at h
-  lines_pass true false p q h = let z : ◌≡◌ {A = ℕ} 5 0 = simp (p, q) at h in absurd (omega arith)
-  lines_pass false y p q h = let z : ◌≡◌ {A = ℕ} 1 0 = simp p at h in absurd (omega arith)
-
-  in_range_by : (t : Bool) → eqb (image_refusal text ram).number 0 ≡ t → in_range (image_of text ram).machine ≡ true
-  unfolding image_of loaded_by Keeps
-  in_range_by true e =
-      simp e
-      (sound_in _
-      (keeps (lines_of text) 1 false _ (lines_pass (eqb (length ram) size) (leb (length text) size) refl refl (eqb-true _ _ e)) fresh_sound))
-  in_range_by false e = simp e (sound_in fresh fresh_sound)
+  lines_pass true false p q h = let z : Some (refusal 5 0) ≡ None = simp (p, q) at h in absurd (cc)
+  lines_pass false y p q h = let z : Some (refusal 1 0) ≡ None = simp p at h in absurd (cc)
 
   -- whatever the text and RAM, the machine is in range (N21 to N25)
   pub image_in_range : in_range (image_of text ram).machine ≡ true
-  image_in_range = in_range_by (eqb (image_refusal text ram).number 0) refl
+  unfolding image_of loaded_by Keeps
+  image_in_range =
+      by_sound (image_refusal text ram) (loaded_by text ram)
+      (λ e. keeps (lines_of text) 1 false _ (lines_pass (eqb (length ram) size) (leb (length text) size) refl refl e) fresh_sound)

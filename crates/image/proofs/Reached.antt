@@ -8,13 +8,15 @@ use native.Mathlib.Omega.{arith}
 use borrow.Author.Tests.{eq-eqb, ne_eqb, ltb-true, ltb-false}
 use lib.Dec.{eqb, ltb}
 use lib.ListN.{length, drop}
+use Rattle.std.specs.Prelude.{Option, Some, None}
+use Rattle.std.proofs.lemmas.Option.{same_Some}
 use Rattle.promise.specs.Pick.{pick, either}
 use Rattle.frame.specs.Line.{line_of, lines_of, ended_line, from_line}
 use Rattle.frame.proofs.Lines.{Form, empty, cut, whole, form}
 use Rattle.image.specs.declared.Refusal.{Refusal}
-use Rattle.image.specs.Refusals.{refusal, none, is_frame, is_budget, refusal_of, first_of}
+use Rattle.image.specs.Refusals.{refusal, is_budget, refusal_of, first_of}
 use Rattle.image.specs.Exact.{frame_at, Budgeted, Passes, Reached}
-use Rattle.image.proofs.Cases.{given_0}
+use Rattle.image.proofs.Cases.{passed}
 
 pub differ : {t : Bool} → t ≡ true → t ≡ false → ⊥
 differ p q = let z : ◌≡◌ {A = ℕ} 0 1 = cc in omega arith
@@ -41,10 +43,10 @@ module _ (text : List ℕ) where
   abbrev pub over : ℕ → Bool
   over n = eqb (length (from_line text n)) 0
 
-  abbrev pub number_at : ℕ → Bool → ℕ
-  number_at n after = pick (over n) (pick after 0 8) (refusal_of after (frame_at text n))
+  abbrev pub number_at : ℕ → Bool → Option ℕ
+  number_at n after = pick (over n) (pick after None (Some 8)) (refusal_of after (frame_at text n))
 
-  abbrev pub first_from : ℕ → Bool → Refusal
+  abbrev pub first_from : ℕ → Bool → Option Refusal
   first_from n after = first_of (lines_of (from_line text n)) n after
 
   -- ---- one line
@@ -54,41 +56,49 @@ module _ (text : List ℕ) where
   from_next zero h = absurd (omega arith)
   from_next (suc n) h = rw add-one
 
-  pub frame_there : (n : ℕ) → is_frame (frame_at text n) ≡ true → over n ≡ false
-  unfolding frame_at is_frame
-  frame_there n h = go (ended_line (from_line text n)) refl
+  -- a line that is no frame may not be there
+  not_there : (n : ℕ) → over n ≡ true → frame_at text n ≡ None
+  unfolding frame_at
+  not_there n h = go (ended_line (from_line text n)) refl
     where
-      go : (b : Bool) → ended_line (from_line text n) ≡ b → over n ≡ false
-      go true e = some_ended _ e
-      go false e = absurd (differ h (simp e))
+      go : (b : Bool) → ended_line (from_line text n) ≡ b → frame_at text n ≡ None
+      go true e = absurd (differ h (some_ended _ e))
+      go false e = simp e
+
+  pub frame_there : (n : ℕ) → (frame_at text n ≡ None → ⊥) → over n ≡ false
+  frame_there n h = go (over n) refl
+    where
+      go : (b : Bool) → over n ≡ b → over n ≡ false
+      go true e = absurd (h (not_there n e))
+      go false e = e
 
   -- a line that does not pass is the last that is looked at
-  pub stops : (n : ℕ) (after : Bool) → (number_at n after ≡ 0 → ⊥) → first_from n after ≡ refusal (number_at n after) n
-  unfolding frame_at first_of refusal_of is_frame
-  stops n after h = go after (form (from_line text n)) h
+  pub stops : (n : ℕ) (after : Bool) (k : ℕ) → number_at n after ≡ Some k → first_from n after ≡ Some (refusal k n)
+  unfolding frame_at first_of
+  stops n after k h = go after (form (from_line text n)) h
     where
-      go : (a : Bool) → Form (from_line text n) → (number_at n a ≡ 0 → ⊥) → first_from n a ≡ refusal (number_at n a) n
-      go true (empty l e) h = absurd (h (simp (eq-eqb _ _ l)))
-      go false (empty l e) h = simp (e, eq-eqb _ _ l)
-      go a (cut l b e) h = simp (e, b, some _ l)
-      go a (whole b e) h = simp (e, b, some_ended _ b, ne_eqb _ _ (simp (b, some_ended _ b) at h))
+      go : (a : Bool) → Form (from_line text n) → number_at n a ≡ Some k → first_from n a ≡ Some (refusal k n)
+      go true (empty l e) h = let z : None ≡ Some k = simp (eq-eqb _ _ l) at h in absurd (cc)
+      go false (empty l e) h = let z : Some 8 ≡ Some k = simp (eq-eqb _ _ l) at h in simp (e, same_Some _ _ z)
+      go a (cut l b e) h = let z : Some 6 ≡ Some k = simp (b, some _ l) at h in simp (e, same_Some _ _ z)
+      go a (whole b e) h = simp (e, simp (b, some_ended _ b) at h)
 
   -- after a line that passes come those after it
-  pub goes_on : (n : ℕ) (after : Bool) → 1 ≤ n → over n ≡ false → number_at n after ≡ 0 → first_from n after ≡ first_from (n + 1) (either after (is_budget (frame_at text n)))
-  unfolding frame_at first_of refusal_of is_frame
+  pub goes_on : (n : ℕ) (after : Bool) → 1 ≤ n → over n ≡ false → number_at n after ≡ None → first_from n after ≡ first_from (n + 1) (either after (is_budget (frame_at text n)))
+  unfolding frame_at first_of
   goes_on n after c t h = go (form (from_line text n))
     where
       go : Form (from_line text n) → first_from n after ≡ first_from (n + 1) (either after (is_budget (frame_at text n)))
       go (empty l e) = absurd (differ (eq-eqb _ _ l) t)
-      go (cut l b e) = let z : ◌≡◌ {A = ℕ} 6 0 = simp (b, t) at h in absurd (omega arith)
-      go (whole b e) = simp (e, b, eq-eqb _ _ (simp (b, t) at h), from_next n c)
+      go (cut l b e) = let z : ◌≡◌ {A = Option ℕ} (Some 6) None = simp (b, t) at h in absurd (cc)
+      go (whole b e) = simp (e, b, simp (b, t) at h, from_next n c)
 
   -- where nothing is left after the budget nothing is refused
-  pub ends : (n : ℕ) → over n ≡ true → first_from n true ≡ none
+  pub ends : (n : ℕ) → over n ≡ true → first_from n true ≡ None
   unfolding first_of
   ends n t = go (form (from_line text n))
     where
-      go : Form (from_line text n) → first_from n true ≡ none
+      go : Form (from_line text n) → first_from n true ≡ None
       go (empty l e) = simp e
       go (cut l b e) = absurd (differ t (some _ l))
       go (whole b e) = absurd (differ t (some_ended _ b))
@@ -122,7 +132,7 @@ module _ (text : List ℕ) where
         not_yet = λ e b. omega (arith, b.counted, b.before);
       }
 
-  pub passes : (n : ℕ) (after : Bool) → At n after → over n ≡ false → number_at n after ≡ 0 → Passes text n × (after ≡ false)
+  pub passes : (n : ℕ) (after : Bool) → At n after → over n ≡ false → number_at n after ≡ None → Passes text n × (after ≡ false)
   passes n after a t h =
-      let g = given_0 after (frame_at text n) (simp t at h) in
-      (record { frame = g.0; value = g.1.0; in_time = a.not_yet g.1.1 }, g.1.1)
+      let g = passed after (frame_at text n) (simp t at h) in
+      (record { frame = g.0; in_time = a.not_yet g.1 }, g.1)

@@ -4,74 +4,68 @@ use mathlib.Core.Bool.{Bool, true, false}
 use mathlib.Core.Path.{◌≡◌, refl, sym, ap, ◌∙◌, subst, subst⁻¹}
 use mathlib.Core.List.{List}
 use native.Mathlib.Omega.{arith}
-use borrow.Author.Tests.{eq-eqb, ne_eqb, ltb-true, ltb-false}
+use borrow.Author.Tests.{ltb-true, ltb-false}
 use lib.Dec.{ltb}
 use lib.ListN.{length, take, drop, replicate}
+use Rattle.std.specs.Prelude.{Option, Some, None}
 use Rattle.promise.specs.Pick.{pick, either}
 use Rattle.frame.specs.Line.{line_of, Lines, line, lines_of}
 use Rattle.frame.specs.Frame.{frame_of}
 use Rattle.frame.specs.declared.Frame.{Frame}
 use Rattle.frame.proofs.Lines.{left_is, lines_next, lines_last, lines_done}
-use Rattle.image.specs.Allowed.{allowed}
-use Rattle.image.specs.Refusals.{refusal, none, is_frame, is_budget, refusal_of, first_of}
+use Rattle.image.specs.Refusals.{refusal, is_budget, refusal_of, first_of}
 use Rattle.card.specs.declared.Machine.{Machine}
 use Rattle.card.specs.Machine.{machine, fresh}
 use Rattle.image.specs.declared.Acted.{Acted}
 use Rattle.image.specs.Image.{image, loaded_by, Has}
-use Rattle.image.specs.Acts.{Loaded, loaded, act, acts, Did}
+use Rattle.image.specs.Acts.{Loaded, loaded, line_act, acts, Did}
+use Rattle.image.proofs.Cases.{passed}
 
--- after the budget no line passes
-pub after_refused : (f : Frame) (a b : Bool) → is_frame f ≡ a → allowed f ≡ b → refusal_of true f ≡ 0 → ⊥
-unfolding refusal_of
-after_refused f true true p q h = let z : ◌≡◌ {A = ℕ} 8 0 = simp (p, q) at h in absurd (omega arith)
-after_refused f true false p q h = let z : ◌≡◌ {A = ℕ} 7 0 = simp (p, q) at h in absurd (omega arith)
-after_refused f false b p q h = let z : ◌≡◌ {A = ℕ} 6 0 = simp p at h in absurd (omega arith)
-
-seen : (after : Bool) (f : Frame) → refusal_of after f ≡ 0 → either after (is_budget f) ≡ is_budget f
-seen true f h = absurd (after_refused f (is_frame f) (allowed f) refl refl h)
-seen false f h = refl
+-- a line that passes does not come after the budget
+seen : (after : Bool) (f : Option Frame) → refusal_of after f ≡ None → either after (is_budget f) ≡ is_budget f
+seen after f h = rw (passed after f h).1
 
 module _ (text : List ℕ) (at : ℕ) (l : List ℕ) (e : l ≡ line_of (take (length text - at) (drop at text))) (b : at < length text) where
   line_is : l ≡ line_of (drop at text)
   line_is = e ∙ ap line_of (left_is text at (omega arith))
 
-  pub first_unended : (n : ℕ) (after : Bool) → length text ≤ at + length l → first_of (lines_of (drop at text)) n after ≡ refusal 6 n
+  pub first_unended : (n : ℕ) (after : Bool) → length text ≤ at + length l → first_of (lines_of (drop at text)) n after ≡ Some (refusal 6 n)
   unfolding first_of
   first_unended n after h = simp (lines_last text at b (subst (λ (k : List ℕ). length text ≤ at + length k) line_is h))
 
   ended : at + length l < length text → lines_of (drop at text) ≡ line l (lines_of (drop (at + length l + 1) text))
   ended h = subst⁻¹ (λ (k : List ℕ). lines_of (drop at text) ≡ line k (lines_of (drop (at + length k + 1) text))) line_is (lines_next text at (subst (λ (k : List ℕ). at + length k < length text) line_is h))
 
-  module _ (f : Frame) (g : f ≡ frame_of l) (s : Loaded) where
-    acts_ended : at + length l < length text → acts (lines_of (drop at text)) s ≡ acts (lines_of (drop (at + length l + 1) text)) (act s f)
+  module _ (f : Option Frame) (g : f ≡ frame_of l) (s : Loaded) where
+    acts_ended : at + length l < length text → acts (lines_of (drop at text)) s ≡ acts (lines_of (drop (at + length l + 1) text)) (line_act s f)
     unfolding acts
     acts_ended h =
         ap (λ (ls : Lines). acts ls s) (ended h)
-        ∙ ap (λ (k : Frame). acts (lines_of (drop (at + length l + 1) text)) (act s k)) (sym g)
+        ∙ ap (λ (k : Option Frame). acts (lines_of (drop (at + length l + 1) text)) (line_act s k)) (sym g)
 
-    acts_unended : length text ≤ at + length l → acts (lines_of (drop at text)) s ≡ acts (lines_of (drop (at + length l + 1) text)) (act s f)
+    acts_unended : length text ≤ at + length l → acts (lines_of (drop at text)) s ≡ acts (lines_of (drop (at + length l + 1) text)) (line_act s f)
     unfolding acts
     acts_unended h =
         simp (lines_last text at b (subst (λ (k : List ℕ). length text ≤ at + length k) line_is h), lines_done text (at + length l + 1) (omega arith), sym line_is, sym g)
 
-    go : (t : Bool) → ltb (at + length l) (length text) ≡ t → acts (lines_of (drop at text)) s ≡ acts (lines_of (drop (at + length l + 1) text)) (act s f)
+    go : (t : Bool) → ltb (at + length l) (length text) ≡ t → acts (lines_of (drop at text)) s ≡ acts (lines_of (drop (at + length l + 1) text)) (line_act s f)
     go true t = acts_ended (ltb-true _ _ t)
     go false t = acts_unended (ltb-false _ _ t)
 
     -- the next line's frame acts, whether or not an LF ends it
-    pub acts_next : acts (lines_of (drop at text)) s ≡ acts (lines_of (drop (at + length l + 1) text)) (act s f)
+    pub acts_next : acts (lines_of (drop at text)) s ≡ acts (lines_of (drop (at + length l + 1) text)) (line_act s f)
     acts_next = go (ltb (at + length l) (length text)) refl
 
-  module _ (n : ℕ) (after : Bool) (h : at + length l < length text) (f : Frame) (g : f ≡ frame_of l) (number : ℕ) (q : number ≡ refusal_of after f) where
-    pub first_refused : (number ≡ 0 → ⊥) → first_of (lines_of (drop at text)) n after ≡ refusal number n
+  module _ (n : ℕ) (after : Bool) (h : at + length l < length text) (f : Option Frame) (g : f ≡ frame_of l) where
+    pub first_refused : (number : ℕ) → Some number ≡ refusal_of after f → first_of (lines_of (drop at text)) n after ≡ Some (refusal number n)
     unfolding first_of
-    first_refused z = simp (ended h, sym g, sym q, ne_eqb _ _ z)
+    first_refused number q = simp (ended h, sym g, sym q)
 
-    pub first_next : number ≡ 0 → (next : Bool) → next ≡ is_budget f → first_of (lines_of (drop at text)) n after ≡ first_of (lines_of (drop (at + length l + 1) text)) (n + 1) next
+    pub first_next : None ≡ refusal_of after f → (next : Bool) → next ≡ is_budget f → first_of (lines_of (drop at text)) n after ≡ first_of (lines_of (drop (at + length l + 1) text)) (n + 1) next
     unfolding first_of
-    first_next z next w = simp (ended h, sym g, sym q, eq-eqb _ _ z, seen after f (sym q ∙ z), w)
+    first_next q next w = simp (ended h, sym g, sym q, seen after f (sym q), w)
 
-pub first_done : (text : List ℕ) (at n : ℕ) (after : Bool) → length text ≤ at → first_of (lines_of (drop at text)) n after ≡ pick after none (refusal 8 n)
+pub first_done : (text : List ℕ) (at n : ℕ) (after : Bool) → length text ≤ at → first_of (lines_of (drop at text)) n after ≡ pick after None (Some (refusal 8 n))
 unfolding first_of
 first_done text at n after h = simp (lines_done text at h)
 
@@ -84,7 +78,7 @@ pub did_is : {o : Loaded} {r : Acted} {regs tlb ram : List ℕ} → Did o r regs
 did_is d = λ i. record { machine = d.machine i; ram = d.memory i; budget = d.budget i }
 
 -- when none is left, all of the text has acted
-pub all_acted : (text ram z : List ℕ) (m : Machine) (at : ℕ) (x : Loaded) → m ≡ fresh → z ≡ replicate (length ram) 0 → acts (lines_of text) (loaded m z 0) ≡ acts (lines_of (drop at text)) x → length text ≤ at → Has (loaded_by text ram) (image x.machine x.budget none) x.ram
+pub all_acted : (text ram z : List ℕ) (m : Machine) (at : ℕ) (x : Loaded) → m ≡ fresh → z ≡ replicate (length ram) 0 → acts (lines_of text) (loaded m z 0) ≡ acts (lines_of (drop at text)) x → length text ≤ at → Has (loaded_by text ram) (image x.machine x.budget None) x.ram
 unfolding loaded_by
 all_acted text ram z m at x p q e h =
     let w : loaded_by text ram ≡ x =
@@ -92,4 +86,4 @@ all_acted text ram z m at x p q e h =
     ∙ ap (λ (k : List ℕ). acts (lines_of text) (loaded m k 0)) (sym q)
     ∙ e
     ∙ acts_done text at x h in
-    record { image = ap (λ (k : Loaded). image k.machine k.budget none) (sym w); memory = ap (λ (k : Loaded). k.ram) (sym w) }
+    record { image = ap (λ (k : Loaded). image k.machine k.budget None) (sym w); memory = ap (λ (k : Loaded). k.ram) (sym w) }

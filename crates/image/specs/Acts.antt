@@ -1,5 +1,5 @@
 -- What frames do to the machine, to RAM and to the budget, one part at a time.
-use Rattle.std.specs.Prelude.{ℕ, List, ◌≡◌, eqb, ltb, set}
+use Rattle.std.specs.Prelude.{ℕ, List, Option, Some, None, ◌≡◌, eqb, ltb, set}
 use Rattle.promise.specs.Pick.{pick}
 use Rattle.memory.specs.Stores.{sd, put_bytes}
 use Rattle.tlb.specs.declared.Slot as tlb
@@ -15,7 +15,7 @@ use Rattle.card.specs.Machine.{machine}
 use Rattle.frame.specs.Line.{Lines, done, unended, line}
 use Rattle.frame.specs.Frame.{HI, LO, PC, frame_of}
 use Rattle.frame.specs.declared.Frame.{Frame}
-use Rattle.frame.specs.declared.Frame.TheVariants.{Register, Memory, Budget, Cp0, Slot, NotFrame}
+use Rattle.frame.specs.declared.Frame.TheVariants.{Register, Memory, Budget, Cp0, Slot}
 use Rattle.image.specs.declared.Acted.{Acted}
 
 -- 00 to 1f set a register (I4)
@@ -62,7 +62,6 @@ act s (Slot index mask hi lo0 lo1) =
     (machine s.machine.cpu s.machine.cp0 s.machine.regs (put_slot s.machine.tlb (Put index (moved mask hi lo0 lo1))))
     s.ram
     s.budget
-act s NotFrame = s
 
 -- what the code hands back of it
 abbrev pub acted : Cpu → cp0.Cp0 → ℕ → Acted
@@ -74,8 +73,13 @@ pub record Did (o : Loaded) (r : Acted) (regs tlb ram : List ℕ) : Type 0 where
   pub memory : ram ≡ o.ram
   pub budget : r.budget ≡ o.budget
 
+-- what a line does: its frame acts, where it is one
+abbrev pub line_act : Loaded → Option Frame → Loaded
+line_act s None = s
+line_act s (Some f) = act s f
+
 -- the lines' frames act first to last, so that later ones override (I11); a text whose last line no LF ends is refused before
 unfoldable pub acts : Lines → Loaded → Loaded
 acts done s = s
-acts (unended l) s = act s (frame_of l)
-acts (line l ls) s = acts ls (act s (frame_of l))
+acts (unended l) s = line_act s (frame_of l)
+acts (line l ls) s = acts ls (line_act s (frame_of l))

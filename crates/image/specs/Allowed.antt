@@ -3,7 +3,7 @@ use Rattle.std.specs.Prelude.{ℕ, ◌%◌, Bool, true, false, eqb, leb}
 use Rattle.promise.specs.Pick.{both, either, not}
 use Rattle.frame.specs.Frame.{PC}
 use Rattle.frame.specs.declared.Frame.{Frame}
-use Rattle.frame.specs.declared.Frame.TheVariants.{Register, Memory, Budget, Cp0, Slot, NotFrame}
+use Rattle.frame.specs.declared.Frame.TheVariants.{Register, Memory, Budget, Cp0, Slot}
 use Rattle.tlb.specs.PageMask.{legal_mask}
 use Rattle.cp0.specs.declared.Move.{Move}
 use Rattle.cp0.specs.declared.Move.TheVariants.{Built, NotBuilt}
@@ -38,4 +38,3 @@ allowed (Memory address value) = address_allowed address
 allowed (Budget n) = true
 allowed (Cp0 number value) = move_allowed number value
 allowed (Slot index mask hi lo0 lo1) = slot_allowed index mask
-allowed NotFrame = false

@@ -1,10 +1,10 @@
 -- Document 01's worked image: by computation nothing in it is refused (I16). What it prints is proved in cardrun, Worked.worked.
-use Rattle.std.specs.Prelude.{ℕ, false, ◌≡◌, refl, List, [], ◌∷◌}
+use Rattle.std.specs.Prelude.{ℕ, false, None, ◌≡◌, refl, List, [], ◌∷◌}
 use Rattle.frame.specs.Line.{line_of, before, lines_of}
 use Rattle.frame.specs.Digits.{hex?, digit, all_hex, number_from, number}
 use Rattle.frame.specs.Frame.{tagged, framed, frame_of}
 use Rattle.image.specs.Allowed.{register_allowed, address_allowed, allowed}
-use Rattle.image.specs.Refusals.{none, is_frame, is_budget, refusal_of, first_of}
+use Rattle.image.specs.Refusals.{first_of}
 
 -- 02000000002408000501084821, 0122ffffffff80000000 and 0300000002, each with its LF
 abbrev pub text : List ℕ
@@ -14,6 +14,6 @@ text =
     ∷ 48 ∷ 51 ∷ 48 ∷ 48 ∷ 48 ∷ 48 ∷ 48 ∷ 48 ∷ 48 ∷ 50 ∷ 10 ∷ []
 
 -- nothing in it is refused
-pub example_passes : first_of (lines_of text) 1 false ≡ none
-unfolding line_of before lines_of hex? digit all_hex number_from number tagged framed frame_of register_allowed address_allowed allowed is_frame is_budget refusal_of first_of
+pub example_passes : first_of (lines_of text) 1 false ≡ None
+unfolding line_of before lines_of hex? digit all_hex number_from number tagged framed frame_of register_allowed address_allowed allowed first_of
 example_passes = refl

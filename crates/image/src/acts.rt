@@ -92,6 +92,5 @@ pub fn act(
             tlb::put_slot(&mut *tlb, SlotWrite::Put { index, moved: s });
             acted(cpu, cp0, budget)
         }
-        Frame::NotFrame => acted(cpu, cp0, budget),
     }
 }

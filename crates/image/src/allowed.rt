@@ -67,6 +67,5 @@ pub fn allowed(f: Frame) -> bool
             lo0: _,
             lo1: _,
         } => slot_allowed(index, mask),
-        Frame::NotFrame => false,
     }
 }

@@ -2,7 +2,6 @@
 #![tactic(auto)]
 
 ghost use Rattle.std.specs.Prelude.{◌≡◌, ◌≤◌, length};
-ghost use Rattle.image.specs.Refusals.{none};
 ghost use Rattle.image.specs.Image as I;
 
 use card::Machine;
@@ -14,20 +13,19 @@ mod allowed;
 mod refusals;
 mod zeroed;
 
-// The number of document 01's table and the line that it names; 0 and 0 where nothing is refused.
+// A refusal: the number of document 01's table, and the line that it names.
 #[derive(Clone, Copy)]
 pub struct Refusal {
     pub number: u8,
     pub line: u64,
 }
 
-// What is read besides RAM: the machine, the budget, and the refusal.
+// What is read besides RAM: the machine, the budget, and the refusal, where there is one.
 #[derive(Clone, Copy)]
 pub struct Image {
     pub machine: Machine,
     pub budget: u64,
-    pub number: u8,
-    pub line: u64,
+    pub refusal: Option<Refusal>,
 }
 
 // What a frame leaves besides what it is lent.
@@ -54,11 +52,12 @@ fn load(text: &[u8], ram: &mut [u8]) -> Image
     while at < text.len() {
         let line = frame::next_line(&text[at..]);
         let end = at + line.len();
-        let f = frame::frame_of(line);
-        let s = acts::act(f, cpu, cp0, budget, &mut regs, &mut tlb, &mut *ram);
-        cpu = s.cpu;
-        cp0 = s.cp0;
-        budget = s.budget;
+        if let Some(f) = frame::frame_of(line) {
+            let s = acts::act(f, cpu, cp0, budget, &mut regs, &mut tlb, &mut *ram);
+            cpu = s.cpu;
+            cp0 = s.cp0;
+            budget = s.budget;
+        }
         at = end + 1;
     }
     let machine = Machine {
@@ -70,8 +69,7 @@ fn load(text: &[u8], ram: &mut [u8]) -> Image
     Image {
         machine,
         budget,
-        number: 0,
-        line: 0,
+        refusal: None,
     }
 }
 
@@ -79,15 +77,12 @@ fn load(text: &[u8], ram: &mut [u8]) -> Image
 pub fn read_image(text: &[u8], ram: &mut [u8]) -> Image
     ensures { (result ≡ I.image_of text.now ram.old) × (ram.new ≡ I.ram_after text.now ram.old) }
 {
-    let refusal = refusals::image_refusal(text, &*ram);
-    if refusal.number != 0 {
-        let machine = card::fresh();
-        return Image {
-            machine,
+    match refusals::image_refusal(text, &*ram) {
+        Some(r) => Image {
+            machine: card::fresh(),
             budget: 0,
-            number: refusal.number,
-            line: refusal.line,
-        };
+            refusal: Some(r),
+        },
+        None => load(text, &mut *ram),
     }
-    load(text, &mut *ram)
 }

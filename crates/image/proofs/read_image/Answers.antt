@@ -1,15 +1,12 @@
 -- The refusal is known before anything is written.
-use mathlib.Core.Path.{sym, ◌∙◌}
-use Rattle.image.proofs.Reading.{short, refused, accepted, number_is}
+use Rattle.image.proofs.Reading.{short, refused, accepted}
 use Rattle.image.proofs.read_image.Goals as goal
 
-pub returns-then-refusal-ne0 : goal.returns-then-refusal-ne0
-returns-then-refusal-ne0 c = refused _ _ _ c.image_refusal-refusal.ensures c.if-refusal-ne0.true _ c.fresh-machine.ensures
+pub returns-in-Some : goal.returns-in-Some
+returns-in-Some c = refused _ _ _ c.in-Some.ensures _ c.fresh.ensures
 
 pub load-requires : goal.load-requires
-load-requires c =
-    short _ _ (sym (number_is _ _ _ c.image_refusal-refusal.ensures) ∙ c.if-refusal-ne0.false)
+load-requires c = short _ _ c.in-None.ensures
 
-pub returns : goal.returns
-returns c =
-    accepted _ _ _ c.image_refusal-refusal.ensures c.if-refusal-ne0.false _ _ c.load.ensures
+pub returns-in-None : goal.returns-in-None
+returns-in-None c = accepted _ _ c.in-None.ensures _ _ c.load.ensures

@@ -22,7 +22,3 @@ returns-in-Cp0 c = simp (c.in-Cp0.is, c.move_in.ensures, c.acted-in-Cp0.ensures)
 pub returns-in-Slot : goal.returns-in-Slot
 unfolding act
 returns-in-Slot c = simp (c.in-Slot.is, c.moved-s.ensures, c.put_slot.ensures, c.acted-in-Slot.ensures) (record { machine = refl; memory = refl; budget = refl })
-
-pub returns-in-NotFrame : goal.returns-in-NotFrame
-unfolding act
-returns-in-NotFrame c = simp (c.in-NotFrame.is, c.acted-in-NotFrame.ensures) (record { machine = refl; memory = refl; budget = refl })

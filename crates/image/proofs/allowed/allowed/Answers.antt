@@ -21,7 +21,3 @@ returns-in-Cp0 c = simp (c.in-Cp0.is, c.move_allowed.ensures)
 pub returns-in-Slot : goal.returns-in-Slot
 unfolding allowed
 returns-in-Slot c = simp (c.in-Slot.is, c.slot_allowed.ensures)
-
-pub returns-in-NotFrame : goal.returns-in-NotFrame
-unfolding allowed
-returns-in-NotFrame c = simp c.in-NotFrame.is

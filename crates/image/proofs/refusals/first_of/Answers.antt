@@ -12,11 +12,11 @@ returns-then-text-end c =
     (c.loop-at.invariant.1.1.1
     ∙ first_unended _ _ _ c.next_line-line.ensures.0 c.loop-at-test.true _ _ c.if-text-end.true)
 
-pub returns-then-number-ne0 : goal.returns-then-number-ne0
-returns-then-number-ne0 c =
+pub returns-in-Some : goal.returns-in-Some
+returns-in-Some c =
     sym
     (c.loop-at.invariant.1.1.1
-    ∙ first_refused _ _ _ c.next_line-line.ensures.0 c.loop-at-test.true _ _ c.if-text-end.false _ c.frame_of-f.ensures _ c.refusal_of-number.ensures c.if-number-ne0.true)
+    ∙ first_refused _ _ _ c.next_line-line.ensures.0 c.loop-at-test.true _ _ c.if-text-end.false _ c.frame_of-f.ensures _ c.in-Some.ensures)
 
 pub loop-at-preserved : goal.loop-at-preserved
 loop-at-preserved c = (
@@ -26,7 +26,7 @@ loop-at-preserved c = (
     (
       c.loop-at.invariant.1.1.0,
       c.loop-at.invariant.1.1.1
-          ∙ first_next _ _ _ c.next_line-line.ensures.0 c.loop-at-test.true _ _ c.if-text-end.false _ c.frame_of-f.ensures _ c.refusal_of-number.ensures c.if-number-ne0.false _ c.is_budget-after.ensures,
+          ∙ first_next _ _ _ c.next_line-line.ensures.0 c.loop-at-test.true _ _ c.if-text-end.false _ c.frame_of-f.ensures c.in_default.ensures _ c.is_budget-after.ensures,
     ),
   ),
 )
@@ -34,5 +34,5 @@ loop-at-preserved c = (
 pub returns-then-after : goal.returns-then-after
 returns-then-after c = sym (c.loop-at.invariant.1.1.1 ∙ first_done _ _ _ _ c.loop-at-test.false ∙ simp c.if-after.true)
 
-pub returns : goal.returns
-returns c = sym (c.loop-at.invariant.1.1.1 ∙ first_done _ _ _ _ c.loop-at-test.false ∙ simp c.if-after.false)
+pub returns-else-after : goal.returns-else-after
+returns-else-after c = sym (c.loop-at.invariant.1.1.1 ∙ first_done _ _ _ _ c.loop-at-test.false ∙ simp c.if-after.false)

@@ -8,8 +8,7 @@ use lib.Dec.{eqb}
 use lib.ListN.{length, length-append}
 use Rattle.promise.specs.Pick.{pick}
 use Rattle.tlb.specs.declared.Slot.{Slot}
-use Rattle.tlb.specs.declared.SlotRead.{SlotRead}
-use Rattle.tlb.specs.declared.SlotRead.TheVariants.{Is, Nothing}
+use Rattle.std.specs.Prelude.{Option, Some, None}
 use Rattle.tlb.specs.Slot.{read_slot}
 use Rattle.cp0.specs.Registers.{kept?}
 use Rattle.cp0.specs.Moves.{move_out}
@@ -62,10 +61,9 @@ module _ (m : Machine) (ram : List ℕ) (i : ℕ) where
       go true e = simp e (omega (arith, frame_length 4 2 i 16 (move_out m.cp0 0 i)))
       go false e = simp e (omega arith)
 
-  read_most : (x : SlotRead) → length (read_frame i x) ≤ 37
-  unfolding read_frame
-  read_most (Is s) = omega (arith, slot_length i s)
-  read_most Nothing = omega arith
+  read_most : (x : Option Slot) → length (read_frame i x) ≤ 37
+  read_most (Some s) = omega (arith, slot_length i s)
+  read_most None = omega arith
 
   line_most : (p : Part) → length (line_of p m ram i) ≤ most p i
   unfolding line_of most

@@ -1,14 +1,12 @@
 -- Frames as they are printed: a tag, fields of digits, and LF.
-use Rattle.std.specs.Prelude.{ℕ, zero, suc, ◌+◌, ◌*◌, Bool, List, [], ◌∷◌, ◌++◌, eqb, ltb, get_or}
+use Rattle.std.specs.Prelude.{ℕ, zero, suc, ◌+◌, ◌*◌, Bool, Option, Some, None, List, [], ◌∷◌, ◌++◌, eqb, ltb, get_or}
 use Rattle.promise.specs.Pick.{pick}
 use Rattle.frame.specs.Line.{LF}
 use Rattle.frame.specs.Frame.{HI, LO}
 use Rattle.memory.specs.declared.Eight.{Eight}
-use Rattle.memory.specs.declared.Eight.TheVariants.{Ram, Rom, Missing}
+use Rattle.memory.specs.declared.Eight.TheVariants.{Ram, Rom}
 use Rattle.memory.specs.Memory.{read}
 use Rattle.tlb.specs.declared.Slot.{Slot}
-use Rattle.tlb.specs.declared.SlotRead.{SlotRead}
-use Rattle.tlb.specs.declared.SlotRead.TheVariants.{Is, Nothing}
 use Rattle.tlb.specs.Slot.{read_slot}
 use Rattle.cp0.specs.declared.Cp0.{Cp0}
 use Rattle.cp0.specs.Registers.{kept?}
@@ -64,15 +62,15 @@ unfoldable pub kept_frame : Cp0 → ℕ → List ℕ
 kept_frame c i = pick (kept? i) (cp0_frame i (move_out c 0 i)) []
 
 -- a slot's frame, as TLBR gives it (house; T7)
-unfoldable pub read_frame : ℕ → SlotRead → List ℕ
-read_frame i (Is s) = slot_frame i s
-read_frame i Nothing = []
+abbrev pub read_frame : ℕ → Option Slot → List ℕ
+read_frame i (Some s) = slot_frame i s
+read_frame i None = []
 
 -- the number that eight bytes of RAM are; 0 where RAM has none
-unfoldable pub of_ram : Eight → ℕ
-of_ram (Ram x) = x
-of_ram (Rom x) = 0
-of_ram Missing = 0
+abbrev pub of_ram : Option Eight → ℕ
+of_ram (Some (Ram x)) = x
+of_ram (Some (Rom x)) = 0
+of_ram None = 0
 
 -- line i of each part of the state: the registers that are not zero (I13); all registers, CP0, the TLB, and the doublewords of RAM that are not zero (house)
 unfoldable pub line_of : Part → Machine → List ℕ → ℕ → List ℕ

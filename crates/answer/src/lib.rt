@@ -14,7 +14,7 @@ use effect::Cpu;
 use frame::{HI, LF, LO};
 use memory::{Eight, PAddr};
 pub use texts::{cardrun_text, cardstate_text, placed_text, reason_text, refusal_text, word_text};
-use tlb::{Slot, SlotRead};
+use tlb::Slot;
 
 // The parts of the state, in lines.
 #[derive(Clone, Copy)]
@@ -168,24 +168,23 @@ fn put_kept(out: &mut [u8], at: usize, cp0: Cp0, i: usize) -> usize
 }
 
 // The frame of a slot that TLBR gives.
-fn put_read(out: &mut [u8], at: usize, i: u64, x: SlotRead) -> usize
+fn put_read(out: &mut [u8], at: usize, i: u64, x: Option<Slot>) -> usize
     requires { at ≤ 2 ^ 39 }
     ensures { (Wrote out.old at (F.read_frame i x) result out.new) × (result ≤ at + 40) }
 {
-    let SlotRead::Is(s) = x else {
-        return at;
-    };
-    put_slot(&mut *out, at, i, s)
+    match x {
+        Some(s) => put_slot(&mut *out, at, i, s),
+        None => at,
+    }
 }
 
 // The number that eight bytes of RAM are; 0 where RAM has none.
-fn of_ram(x: Eight) -> u64
+fn of_ram(x: Option<Eight>) -> u64
     ensures { result ≡ F.of_ram x }
 {
     match x {
-        Eight::Ram(n) => n,
-        Eight::Rom(_) => 0,
-        Eight::Missing => 0,
+        Some(Eight::Ram(n)) => n,
+        _ => 0,
     }
 }
 

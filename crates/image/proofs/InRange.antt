@@ -9,20 +9,19 @@ use lib.Count.{ones, count_trailing_zeros}
 use lib.Dec.{eqb, ltb, leb}
 use lib.ListN.{length, get_or, set, length-set}
 use lib.Seq.{get_or-set_other}
-use Rattle.std.specs.Prelude.{Option, Some, None}
+use Rattle.std.specs.Prelude.{Result, Ok, Err, Option, Some, None}
+use Rattle.std.specs.Result.{is_ok}
 use Rattle.promise.specs.Pick.{both, either}
 use Rattle.frame.specs.Line.{Lines, done, unended, line, lines_of}
 use Rattle.frame.specs.Frame.{HI, LO, PC, frame_of}
 use Rattle.frame.specs.declared.Frame.{Frame}
 use Rattle.frame.specs.declared.Frame.TheVariants.{Register, Memory, Budget, Cp0, Slot}
-use Rattle.tlb.specs.declared.SlotWrite.TheVariants.{Put}
 use Rattle.tlb.specs.declared.Slot as entry
 use Rattle.tlb.specs.PageMask.{trailing_ones, legal_mask}
 use Rattle.tlb.specs.Range.{hi_in_range, lo_in_range, slot_in_range, slots_in_range, tlb_in_range, legal_write}
-use Rattle.tlb.specs.Slot.{slot_at, put_slot, set_slot}
+use Rattle.tlb.specs.Slot.{slot_at, write, put_slot, set_slot}
 use Rattle.tlb.proofs.StaysInRange.{both_true, put_in_range}
-use Rattle.cp0.specs.declared.Move.{Move}
-use Rattle.cp0.specs.declared.Move.TheVariants.{Built, NotBuilt}
+use Rattle.cp0.specs.declared.NotBuilt.{NotBuilt}
 use Rattle.cp0.specs.Registers.{kept?}
 use Rattle.cp0.specs.Moves.{check_move}
 use Rattle.cp0.specs.Range.{cp0_in_range}
@@ -31,7 +30,7 @@ use Rattle.cp0.proofs.KeepsRange.{fresh_in_range}
 use Rattle.effect.specs.declared.Cpu.{Cpu}
 use Rattle.card.specs.declared.Machine.{Machine}
 use Rattle.card.specs.Machine.{fresh, fresh_slots, in_range, cpu_in_range}
-use Rattle.image.specs.Allowed.{built, register_allowed, move_allowed, slot_allowed, allowed}
+use Rattle.image.specs.Allowed.{register_allowed, move_allowed, slot_allowed, allowed}
 use Rattle.image.specs.declared.Refusal.{Refusal}
 use Rattle.image.specs.Refusals.{refusal, is_budget, refusal_of, first_of, image_refusal, size}
 use Rattle.image.specs.Acts.{regs_set, cpu_set, moved, Loaded, act, line_act, acts}
@@ -64,7 +63,6 @@ zero_set (x ∷ xs) = refl
 -- r0 is set to 0 only
 module _ (regs : List ℕ) (number value : ℕ) (a : register_allowed number value ≡ true) (h : get_or regs 0 0 ≡ 0) where
   zero_value : (z : Bool) → eqb value 0 ≡ z → eqb number 0 ≡ true → value ≡ 0
-  unfolding register_allowed
   zero_value true e p = eqb-true value 0 e
   zero_value false e p = let w : both (leb number PC) false ≡ true = simp (p, e) at a in let z : false ≡ true = (both_true (leb number PC) false w).1 in absurd (false_not_true z)
 
@@ -88,18 +86,18 @@ module _ (cpu : Cpu) (number value : ℕ) (h : cpu_in_range cpu ≡ true) where
   cpu_set_in : cpu_in_range (cpu_set cpu number value) ≡ true
   cpu_set_in = cpu_by (eqb number HI) (eqb number LO) (eqb number PC) refl refl refl
 
-slots_by : (tlb : List ℕ) (i : ℕ) (s : entry.Slot) (t : Bool) → ltb i 48 ≡ t → length (put_slot tlb (Put i s)) ≡ length tlb
+slots_by : (tlb : List ℕ) (i : ℕ) (s : entry.Slot) (t : Bool) → ltb i 48 ≡ t → length (put_slot tlb (Some (write i s))) ≡ length tlb
 unfolding put_slot set_slot
 slots_by tlb i s true e = simp (e, length-set)
 slots_by tlb i s false e = simp e
 
-is_built : (m : Move) → built m ≡ true → m ≡ Built
-is_built Built h = refl
-is_built NotBuilt h = absurd (false_not_true h)
+is_built : (m : Result Unit NotBuilt) → is_ok m ≡ true → m ≡ Ok tt
+is_built (Ok u) h = refl
+is_built (Err e) h = absurd (false_not_true h)
 
 -- a frame that is allowed keeps a machine sound
 act_sound : (f : Frame) (s : Loaded) → allowed f ≡ true → Sound s.machine → Sound (act s f).machine
-unfolding allowed move_allowed slot_allowed act legal_write moved
+unfolding act legal_write moved
 act_sound (Register number value) s a h =
     record {
       r0 = r0_set s.machine.regs number value a h.r0;
@@ -114,7 +112,7 @@ act_sound (Cp0 number value) s a h =
     record {
       r0 = h.r0;
       cpu = h.cpu;
-      cp0 = moved_in_range s.machine.cp0 number value (is_built _ (both_true (kept? number) (built (check_move number value)) a).1) h.cp0;
+      cp0 = moved_in_range s.machine.cp0 number value (is_built _ (both_true (kept? number) (is_ok (check_move number value)) a).1) h.cp0;
       tlb = h.tlb;
       slots = h.slots;
     }
@@ -123,7 +121,7 @@ act_sound (Slot index mask hi lo0 lo1) s a h =
       r0 = h.r0;
       cpu = h.cpu;
       cp0 = h.cp0;
-      tlb = put_in_range s.machine.tlb (Put index (moved mask hi lo0 lo1)) h.slots h.tlb (both_true (leb index 0x2f) (legal_mask mask) a).1;
+      tlb = put_in_range s.machine.tlb (Some (write index (moved mask hi lo0 lo1))) h.slots h.tlb (both_true (leb index 0x2f) (legal_mask mask) a).1;
       slots = slots_by s.machine.tlb index (moved mask hi lo0 lo1) (ltb index 48) refl ∙ h.slots;
     }
 

@@ -3,8 +3,7 @@ use Rattle.std.specs.Prelude.{ℕ, List, Option, Some, None, ◌≡◌, eqb, ltb
 use Rattle.promise.specs.Pick.{pick}
 use Rattle.memory.specs.Stores.{sd, put_bytes}
 use Rattle.tlb.specs.declared.Slot as tlb
-use Rattle.tlb.specs.declared.SlotWrite.TheVariants.{Put}
-use Rattle.tlb.specs.Slot.{slot, put_slot}
+use Rattle.tlb.specs.Slot.{slot, write, put_slot}
 use Rattle.cp0.specs.declared.Cp0 as cp0
 use Rattle.cp0.specs.Registers.{kept_entry_hi, kept_entry_lo}
 use Rattle.cp0.specs.Moves.{move_in}
@@ -50,7 +49,7 @@ act s (Register number value) =
     (machine (cpu_set s.machine.cpu number value) s.machine.cp0 (regs_set s.machine.regs number value) s.machine.tlb)
     s.ram
     s.budget
-act s (Memory address value) = loaded s.machine (put_bytes s.ram (sd (record { 0 = address }) value)) s.budget
+act s (Memory address value) = loaded s.machine (put_bytes s.ram (Some (sd (record { 0 = address }) value))) s.budget
 act s (Budget n) = loaded s.machine s.ram n
 act s (Cp0 number value) =
     loaded
@@ -59,7 +58,7 @@ act s (Cp0 number value) =
     s.budget
 act s (Slot index mask hi lo0 lo1) =
     loaded
-    (machine s.machine.cpu s.machine.cp0 s.machine.regs (put_slot s.machine.tlb (Put index (moved mask hi lo0 lo1))))
+    (machine s.machine.cpu s.machine.cp0 s.machine.regs (put_slot s.machine.tlb (Some (write index (moved mask hi lo0 lo1)))))
     s.ram
     s.budget
 

@@ -15,5 +15,5 @@ text =
 
 -- nothing in it is refused
 pub example_passes : first_of (lines_of text) 1 false ≡ None
-unfolding line_of before lines_of hex? digit all_hex number_from number tagged framed frame_of register_allowed address_allowed allowed first_of
+unfolding line_of before lines_of hex? digit all_hex number_from number tagged framed frame_of first_of
 example_passes = refl

@@ -76,7 +76,7 @@ pub fn act(
             acted(cpu_set(cpu, number, value), cp0, budget)
         }
         Frame::Memory { address, value } => {
-            memory::put_bytes(&mut *ram, memory::sd(PAddr(address), value));
+            let _ = memory::put_bytes(&mut *ram, Some(memory::sd(PAddr(address), value)));
             acted(cpu, cp0, budget)
         }
         Frame::Budget(n) => acted(cpu, cp0, n),
@@ -89,7 +89,7 @@ pub fn act(
             lo1,
         } => {
             let s = moved(mask, hi, lo0, lo1);
-            tlb::put_slot(&mut *tlb, SlotWrite::Put { index, moved: s });
+            tlb::put_slot(&mut *tlb, Some(SlotWrite { index, moved: s }));
             acted(cpu, cp0, budget)
         }
     }

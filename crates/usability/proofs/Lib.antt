@@ -1,4 +1,3 @@
--- Which variants the predicates name, that each contract says all, and the order of the checks on two words.
-pub mod Variants
+-- That each contract says all, and the order of the checks on two words.
 pub mod Once
 pub mod Words

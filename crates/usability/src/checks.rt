@@ -9,51 +9,20 @@ use decode::{Instr, Undecoded};
 pub fn is_cp0(i: Instr) -> bool
     ensures { result ≡ U.is_cp0 i }
 {
-    match i {
-        Instr::Cache | Instr::Move { .. } | Instr::Tlb(_) | Instr::Eret => true,
-        Instr::Load { .. }
-        | Instr::Store { .. }
-        | Instr::Arithmetic { .. }
-        | Instr::ArithmeticImmediate { .. }
-        | Instr::Logic { .. }
-        | Instr::LogicImmediate { .. }
-        | Instr::Shift { .. }
-        | Instr::ShiftVariable { .. }
-        | Instr::Multiply { .. }
-        | Instr::HiLo { .. }
-        | Instr::Branch { .. }
-        | Instr::Jump { .. }
-        | Instr::JumpRegister { .. }
-        | Instr::Trap { .. }
-        | Instr::TrapImmediate { .. }
-        | Instr::Special(_) => false,
-    }
+    matches!(
+        i,
+        Instr::Cache | Instr::Move { .. } | Instr::Tlb(_) | Instr::Eret
+    )
 }
 
 // A branch, a jump or ERET.
 pub fn is_branch(i: Instr) -> bool
     ensures { result ≡ U.is_branch i }
 {
-    match i {
-        Instr::Branch { .. } | Instr::Jump { .. } | Instr::JumpRegister { .. } | Instr::Eret =>
-            true,
-        Instr::Load { .. }
-        | Instr::Store { .. }
-        | Instr::Arithmetic { .. }
-        | Instr::ArithmeticImmediate { .. }
-        | Instr::Logic { .. }
-        | Instr::LogicImmediate { .. }
-        | Instr::Shift { .. }
-        | Instr::ShiftVariable { .. }
-        | Instr::Multiply { .. }
-        | Instr::HiLo { .. }
-        | Instr::Trap { .. }
-        | Instr::TrapImmediate { .. }
-        | Instr::Special(_)
-        | Instr::Cache
-        | Instr::Move { .. }
-        | Instr::Tlb(_) => false,
-    }
+    matches!(
+        i,
+        Instr::Branch { .. } | Instr::Jump { .. } | Instr::JumpRegister { .. } | Instr::Eret
+    )
 }
 
 // Stop 17, the last check: a branch in a slot.

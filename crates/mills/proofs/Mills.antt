@@ -18,7 +18,7 @@ use Rattle.elf.specs.declared.Space.TheVariants.{User}
 use Rattle.elf.specs.Header.{count, header, loads}
 use Rattle.elf.specs.Home.{physical, home, stands}
 use Rattle.elf.specs.Pages.{spans, pages_of, pages_at}
-use Rattle.elf.specs.Faults.{file_fault}
+use Rattle.elf.specs.Faults.{none, file_fault}
 use Rattle.elf.proofs.Standing.{inside_user, segment_stands, nothing_stands}
 use Rattle.image.proofs.Exact as image
 use Rattle.place.specs.Plan.{Plan, begun, higher, top_of, top_from, kernel_pages, plan_of}
@@ -48,7 +48,7 @@ bytes_at file k pages (suc n) p zero h = ap (λ (x : ℕ). byte_at file k pages 
 bytes_at file k pages (suc n) p (suc q) h = bytes_at file k pages n (p + 1) q (omega arith) ∙ ap (λ (x : ℕ). byte_at file k pages x) (omega arith)
 
 -- the pages of a header are those with an address of it, if it is a segment
-module _ (file : List ℕ) (sound : (file_fault User file).number ≡ 0) (i : ℕ) (there : i < count file) where
+module _ (file : List ℕ) (sound : file_fault User file ≡ none) (i : ℕ) (there : i < count file) where
   pages_are : pages_at User file i ≡ pages_of User file (header file i)
   unfolding pages_at
   pages_are = rw (lt-ltb i (count file) there) refl
@@ -147,7 +147,7 @@ module _ (file : ℕ → List ℕ) (n : ℕ) (settings : List ℕ) (I : spec.Ima
   may a x w = Page (file a) x w
 
   B : Back (text_of file n settings) (plan_of file n).tlb (ram_of file n)
-  B = back file n settings I.some I.made
+  B = back file n settings I.some I.long I.made
 
   G : GrewPrograms may k file 1 n (begun (file 0)) (plan_of file n)
   unfolding plan_of
@@ -160,7 +160,7 @@ module _ (file : ℕ → List ℕ) (n : ℕ) (settings : List ℕ) (I : spec.Ima
     where
       fit : (b : ℕ) → 1 ≤ b → b < 1 + n → FitFile may k b (file b)
       fit b l u i there y low high =
-          let s = program_sound file n settings I.some I.made b l (omega arith) in
+          let s = program_sound file n settings I.some I.long I.made b l (omega arith) in
           let P = page_of (file b) s i there y low high in
           record { small = page_small (file b) s i there y P; allowed = page_has (file b) s i there y P }
 
@@ -196,10 +196,10 @@ module _ (file : ℕ → List ℕ) (n : ℕ) (settings : List ℕ) (I : spec.Ima
             };
         first = B.like.first;
         from = B.like.from;
-        kernel = kernel_sound file n settings I.some I.made;
-        refill = (vectors_sound file n settings I.some I.made).0;
-        general = (vectors_sound file n settings I.some I.made).1;
-        printed = printed file n settings I.some I.made;
+        kernel = kernel_sound file n settings I.some I.long I.made;
+        refill = (vectors_sound file n settings I.some I.long I.made).0;
+        general = (vectors_sound file n settings I.some I.long I.made).1;
+        printed = λ out h long e. printed file n settings I.some long e out h;
       }
 
   -- where an address of program a leads
@@ -253,16 +253,16 @@ module _ (file : ℕ → List ℕ) (n : ℕ) (settings : List ℕ) (I : spec.Ima
   has : (a x : ℕ) (w : Bool) → Mill n a → Page (file a) x w → There (plan_of file n) a x w
   unfolding pages_of
   has a x w M (of_segment i P e) =
-      let s = program_sound file n settings I.some I.made a M.some M.most in
+      let s = program_sound file n settings I.some I.long I.made a M.some M.most in
       let c = page_in (file a) s i P.there x P in
       subst (λ (b : Bool). There (plan_of file n) a x b) (ap (λ (g : Pages). g.writable) (pages_are (file a) s i P.there) ∙ e)
       (whole.segments i P.there x c.low c.high)
     where
       whole : Whole a (file a) (plan_of file n)
-      whole = let l = M.most in G.has (not_full file n settings I.some I.made) a M.some (omega arith)
+      whole = let l = M.most in G.has (not_full file n settings I.some I.long I.made) a M.some (omega arith)
   has a x w M (of_stack e t) =
       let l = M.most in
-      let W = G.has (not_full file n settings I.some I.made) a M.some (omega arith) in
+      let W = G.has (not_full file n settings I.some I.long I.made) a M.some (omega arith) in
       subst (λ (b : Bool). There (plan_of file n) a x b) (sym t) (subst (λ (y : ℕ). There (plan_of file n) a y true) (sym e) W.stack_there)
 
   all : (a v : ℕ) (w : Bool) → Mill n a → v < 2 ^ 31 → Page (file a) (v / 4096) w → spec.Somewhere file n settings a v w
@@ -284,7 +284,7 @@ module _ (file : ℕ → List ℕ) (n : ℕ) (settings : List ℕ) (I : spec.Ima
         holds = λ a v q half M below leads. byte_is a v q half M below leads;
         segment =
             λ a i v q half M t l f u leads.
-            let s = program_sound file n settings I.some I.made a M.some M.most in
+            let s = program_sound file n settings I.some I.long I.made a M.some M.most in
             let e = inside_user (file a) s i t l in
             byte_is a v q half M (omega arith) leads ∙ segment_stands User (file a) s i t l v f u;
         elsewhere = λ a v q half M below no leads. byte_is a v q half M below leads ∙ nothing_stands User (file a) v no;

@@ -4,6 +4,7 @@ use native.Mathlib.Omega.{arith}
 use mathlib.Core.Path.{◌≡◌, refl, sym, ap, ◌∙◌, subst}
 use mathlib.Core.Bool.{Bool, true, false}
 use mathlib.Core.List.{List}
+use Rattle.std.specs.Prelude.{Option, Some, None}
 use mathlib.Core.Logic.{◌⊎◌, inl, inr}
 use lib.Dec.{eqb, ltb}
 use lib.ListN.{get_or, set}
@@ -164,31 +165,27 @@ module _ (may : ℕ → ℕ → Bool → Type 0) (k : ℕ) (p : Plan) (P : Plann
   crowded_keeps b other x T = record { slot = T.slot; used = T.used; is = T.is; some = T.some; dirty = T.dirty }
 
   -- once the RAM is full, it stays so
-  full_stays : (full : ℕ) → first_full full a ≡ 0 → ⊥
-  unfolding first_full
-  full_stays full e = go (eqb full 0) refl
-    where
-      go : (b : Bool) → eqb full 0 ≡ b → ⊥
-      go true t = let z : pick true a full ≡ 0 = rw t at e in omega arith
-      go false t = let z : full ≡ 0 = rw t at e in eqb-false _ _ t z
+  full_stays : (full : Option ℕ) → first_full full a ≡ None → ⊥
+  full_stays None e = cc
+  full_stays (Some k) e = cc
 
-  full_taken : (i : ℕ) → (taken p a page w i).room.full ≡ 0 → p.room.full ≡ 0
+  full_taken : (i : ℕ) → (taken p a page w i).room.full ≡ None → p.room.full ≡ None
   unfolding taken
   full_taken i e = e
 
-  full_again : (i : ℕ) → (again p page w i).room.full ≡ 0 → p.room.full ≡ 0
+  full_again : (i : ℕ) → (again p page w i).room.full ≡ None → p.room.full ≡ None
   unfolding again
   full_again i e = e
 
-  full_crowded : (crowded p a).room.full ≡ 0 → ⊥
+  full_crowded : (crowded p a).room.full ≡ None → ⊥
   unfolding crowded
   full_crowded e = full_stays p.room.full e
 
   -- what a page more leaves of all this
   pub record Added (q : Plan) : Type 0 where
     pub keeps : (b other : ℕ) (x : Bool) → There p b other x → There q b other x
-    pub makes : q.room.full ≡ 0 → There q a page w
-    pub before : q.room.full ≡ 0 → p.room.full ≡ 0
+    pub makes : q.room.full ≡ None → There q a page w
+    pub before : q.room.full ≡ None → p.room.full ≡ None
 
   pub added : Added (add p a page w)
   unfolding add add_at

@@ -1,5 +1,5 @@
 -- What is promised of an image of programs, mill A's, mill B's, ..: the first runs in User mode, each has its own pages, and in them what its file says.
-use Rattle.std.specs.Prelude.{ℕ, ◌+◌, ◌/◌, ◌%◌, ◌^◌, ◌<◌, ◌≤◌, ◌≡◌, Bool, true, false, List, length, get_or, take}
+use Rattle.std.specs.Prelude.{ℕ, ◌+◌, ◌/◌, ◌%◌, ◌^◌, ◌<◌, ◌≤◌, ◌≡◌, Bool, true, false, List, Ok, length, get_or, take}
 use Rattle.tlb.specs.declared.Half.{Half}
 use Rattle.tlb.specs.declared.Where.TheVariants.{Mapped}
 use Rattle.tlb.specs.Translate.{vaddr, paddr, mapped}
@@ -8,6 +8,7 @@ use Rattle.card.specs.Run.{rom_fits, lines_fit}
 use Rattle.elf.specs.declared.Space.TheVariants.{User, Kernel}
 use Rattle.elf.specs.Header.{count, header, loads}
 use Rattle.elf.specs.Home.{physical, stands, byte_of}
+use Rattle.elf.specs.Faults as E
 use Rattle.elf.specs.Faults.{file_fault}
 use Rattle.image.specs.Image.{image_of, ram_after}
 use Rattle.place.specs.Plan.{kernel_pages, plan_of}
@@ -21,11 +22,12 @@ pub record Mill (n a : ℕ) : Type 0 where
   pub some : 1 ≤ a
   pub most : a ≤ n
 
--- an image was made of a kernel and 1 to 255 programs: nothing was refused
+-- an image was made of a kernel and 1 to 255 programs: nothing was refused, and the text is so long
 pub record Image (file : ℕ → List ℕ) (n : ℕ) (settings : List ℕ) : Type 0 where
   pub some : 1 ≤ n
   pub few : n ≤ 255
-  pub made : (made_of file n settings).number ≡ 0
+  pub long : ℕ
+  pub made : made_of file n settings ≡ Ok long
 
 module _ (file : ℕ → List ℕ) (n : ℕ) (settings : List ℕ) where
   -- the machine that the card's reader makes of its text, and the RAM
@@ -41,10 +43,10 @@ module _ (file : ℕ → List ℕ) (n : ℕ) (settings : List ℕ) where
     pub accepted : (rom : List ℕ) (lines : ℕ) → rom_fits (length rom) ≡ true → lines_fit lines ≡ true → UserWorld (record { machine = machine; ram = ram; rom = rom; lines = lines })
     pub first : asid machine ≡ 1
     pub from : machine.cpu.pc < 2 ^ 31
-    pub kernel : (file_fault Kernel (file 0)).number ≡ 0
+    pub kernel : file_fault Kernel (file 0) ≡ E.none
     pub refill : blank (file 0) 0 ≡ false
     pub general : blank (file 0) 0x180 ≡ false
-    pub printed : (out : List ℕ) → length out ≡ 65536 → take (made_of file n settings).length (out_after file n settings out) ≡ text_of file n settings
+    pub printed : (out : List ℕ) → length out ≡ 65536 → (long : ℕ) → made_of file n settings ≡ Ok long → take long (out_after file n settings out) ≡ text_of file n settings
 
   -- the ASID of the program whose page g of RAM is; 0 for the kernel's pages and for nobody's
   abbrev pub owner_of : ℕ → ℕ

@@ -1,6 +1,8 @@
 -- No two different outcomes satisfy a contract of this crate.
-use mathlib.Core.Path.{refl}
+use Rattle.std.proofs.Common.{refl}
 use Rattle.promise.specs.Unique.{Unique, same}
+use Rattle.access.proofs.Stop.number.Kinds as number-kinds
+use Rattle.access.proofs.Stop.number.Reads as number-reads
 use Rattle.access.proofs.build.counted.Kinds as counted-kinds
 use Rattle.access.proofs.build.counted.Reads as counted-reads
 use Rattle.access.proofs.build.turned.Kinds as turned-kinds
@@ -25,6 +27,9 @@ use Rattle.access.proofs.data.saved.Kinds as saved-kinds
 use Rattle.access.proofs.data.saved.Reads as saved-reads
 use Rattle.access.proofs.fetch.word_at.Kinds as word-at-kinds
 use Rattle.access.proofs.fetch.word_at.Reads as word-at-reads
+
+pub number_once : Unique number-kinds.ps number-kinds.r number-reads.Pre number-reads.Post
+number_once κs a p z₁ z₂ ws₁ ws₂ h₁ h₂ = (same h₁ h₂, refl)
 
 pub counted_once : Unique counted-kinds.ps counted-kinds.r counted-reads.Pre counted-reads.Post
 counted_once κs a p z₁ z₂ ws₁ ws₂ h₁ h₂ = (same h₁ h₂, refl)

@@ -2,14 +2,20 @@
 ghost use Rattle.std.specs.Prelude.{◌≡◌};
 ghost use Rattle.access.specs.Effect as Rule;
 
-use crate::{Effect, Turn};
+use crate::{Effect, Stop, Turn};
 use cp0::Exception;
 use memory::Store;
 use tlb::SlotWrite;
 
 // A counted step that writes a register, a slot and memory.
-pub fn counted(turn: Turn, reg: usize, value: u64, slot: SlotWrite, store: Store) -> Effect
-    ensures { result ≡ Rule.effects turn reg value slot store 0 }
+pub fn counted(
+    turn: Turn,
+    reg: usize,
+    value: u64,
+    slot: Option<SlotWrite>,
+    store: Option<Store>,
+) -> Effect
+    ensures { result ≡ Rule.effects turn reg value slot store None }
 {
     Effect {
         turn,
@@ -17,25 +23,28 @@ pub fn counted(turn: Turn, reg: usize, value: u64, slot: SlotWrite, store: Store
         value,
         slot,
         store,
-        stop: 0,
+        stop: None,
     }
 }
 
 // Cpu and CP0 go on, and nothing else is written.
+#[tactic(auto, unfolding(crate::specs::Effect::turned))]
 pub fn turned(turn: Turn) -> Effect
     ensures { result ≡ Rule.turned turn }
 {
-    counted(turn, 0, 0, SlotWrite::Keep, Store::Nowhere)
+    counted(turn, 0, 0, None, None)
 }
 
 // A register is written.
+#[tactic(auto, unfolding(crate::specs::Effect::wrote))]
 pub fn wrote(reg: usize, value: u64) -> Effect
     ensures { result ≡ Rule.wrote reg value }
 {
-    counted(Turn::Next, reg, value, SlotWrite::Keep, Store::Nowhere)
+    counted(Turn::Next, reg, value, None, None)
 }
 
 // The step is an exception or an interrupt.
+#[tactic(auto, unfolding(crate::specs::Effect::raised))]
 pub fn raised(e: Exception) -> Effect
     ensures { result ≡ Rule.raised e }
 {
@@ -43,15 +52,12 @@ pub fn raised(e: Exception) -> Effect
 }
 
 // The run stops, and the step changes nothing.
-pub fn stopped(n: u8) -> Effect
-    ensures { result ≡ Rule.stopped n }
+#[tactic(auto, unfolding(crate::specs::Effect::turned, crate::specs::Effect::stopped))]
+pub fn stopped(why: Stop) -> Effect
+    ensures { result ≡ Rule.stopped why }
 {
     Effect {
-        turn: Turn::Stay,
-        reg: 0,
-        value: 0,
-        slot: SlotWrite::Keep,
-        store: Store::Nowhere,
-        stop: n,
+        stop: Some(why),
+        ..turned(Turn::Stay)
     }
 }

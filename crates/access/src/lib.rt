@@ -5,6 +5,9 @@ pub mod build; // effects
 pub mod data; // the data access
 pub mod fetch; // the fetch
 
+ghost use Rattle.std.specs.Prelude.{◌≡◌};
+ghost use Rattle.access.specs.Effect as Rule;
+
 use cp0::Exception;
 use memory::{PAddr, Store};
 use tlb::{Slot, SlotWrite};
@@ -25,21 +28,41 @@ pub enum Turn {
     Stay,
 }
 
-// What the fetch comes to: the word at PC, an exception, or a double match.
+// What the fetch comes to where no word is there: an exception, or a double match.
 #[derive(Clone, Copy)]
-pub enum Fetched {
-    Word(u32),
+pub enum Unfetched {
     Raise(Exception),
     Double,
 }
 
-// All that a step does: how it goes on, a register (0: none) and its value, a slot, a store, and the stop (0: none).
+// Why a run stops before a step.
+#[derive(Clone, Copy)]
+pub enum Stop {
+    DoubleMatch,
+    BranchInSlot,
+    NotBuilt,
+}
+
+impl Stop {
+    // The number of document 01's table.
+    pub fn number(self) -> u8
+        ensures { result ≡ Rule.number self }
+    {
+        match self {
+            Stop::DoubleMatch => 16,
+            Stop::BranchInSlot => 17,
+            Stop::NotBuilt => 18,
+        }
+    }
+}
+
+// All that a step does: how it goes on, a register (0: none) and its value, a slot, a store, and why the run stops.
 #[derive(Clone, Copy)]
 pub struct Effect {
     pub turn: Turn,
     pub reg: usize,
     pub value: u64,
-    pub slot: SlotWrite,
-    pub store: Store,
-    pub stop: u8,
+    pub slot: Option<SlotWrite>,
+    pub store: Option<Store>,
+    pub stop: Option<Stop>,
 }

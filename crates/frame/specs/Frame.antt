@@ -16,7 +16,7 @@ abbrev pub PC : ℕ
 PC = 0x22
 
 -- a line of so many digits that starts with a tag
-unfoldable pub tagged : List ℕ → ℕ → ℕ → Bool
+abbrev pub tagged : List ℕ → ℕ → ℕ → Bool
 tagged line tag digits = both (eqb (length line) digits) (eqb (number line 0 2) tag)
 
 -- of a line of digits: `01` number (2) value (16), `02` address (8) bytes (16), `03` budget (8), `04` number (2) value (16), `05` slot (2), PageMask, EntryHi, EntryLo0, EntryLo1 (8 each); no other tag or length (I1, I3, I5, I6, I8, I9)

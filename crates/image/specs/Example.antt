@@ -1,8 +1,8 @@
 -- Document 01's worked image: by computation nothing in it is refused (I16). What it prints is proved in cardrun, Worked.worked.
 use Rattle.std.specs.Prelude.{ℕ, false, None, ◌≡◌, refl, List, [], ◌∷◌}
 use Rattle.frame.specs.Line.{line_of, before, lines_of}
-use Rattle.frame.specs.Digits.{hex?, digit, all_hex, number_from, number}
-use Rattle.frame.specs.Frame.{tagged, framed, frame_of}
+use Rattle.frame.specs.Digits.{number_from, number}
+use Rattle.frame.specs.Frame.{framed, frame_of}
 use Rattle.image.specs.Allowed.{register_allowed, address_allowed, allowed}
 use Rattle.image.specs.Refusals.{first_of}
 
@@ -15,5 +15,5 @@ text =
 
 -- nothing in it is refused
 pub example_passes : first_of (lines_of text) 1 false ≡ None
-unfolding line_of before lines_of hex? digit all_hex number_from number tagged framed frame_of first_of
+unfolding line_of before lines_of number_from number framed frame_of first_of
 example_passes = refl

@@ -1,40 +1,31 @@
-use Prim.Native.Nat.{◌<◌, ◌+◌, ◌-◌, ◌*◌, ◌^◌}
-use mathlib.Core.Path.{◌≡◌, refl, sym, ap, ◌∙◌}
-use native.Mathlib.Nat.{one-le-pow}
-use native.Mathlib.Omega.{arith}
-use lib.ListN.{get_or}
-use Rattle.frame.specs.Digits.{digit, number}
-use Rattle.frame.proofs.Laws.{number_next, number_end, room_next, room}
+use Rattle.std.proofs.Common.{arith, refl, sym, ap, ◌∙◌, add-zero}
+use Rattle.std.specs.Prelude.{unwrap_or}
+use Rattle.std.proofs.Math.Nat.{sub-zero}
+use Rattle.frame.specs.Digits.{number}
+use Rattle.frame.proofs.Laws.{fits, number_next, number_end}
 use Rattle.frame.proofs.number.Goals as goal
 
-pub loop-left-init : goal.loop-left-init
+pub loop-b-init : goal.loop-b-init
 unfolding number
-loop-left-init c = (c.requires.0, (refl, (omega arith, (one-le-pow (16 - c.args.many) 16 (omega arith), refl))))
+loop-b-init c = record { in_range = omega arith; is = rw (add-zero, sub-zero) refl }
 
 pub overflow_mul-v : goal.overflow_mul-v
 overflow_mul-v c =
-    let h : c.loop-left.v * 16 + 0 < 2 ^ 64 = room _ _ (room_next _ _ 0 c.loop-left-test.true c.loop-left.invariant.0 c.loop-left.invariant.1.1.1.0 (omega arith)) in
-    record { fits = omega arith }
+    let k = fits c.args.line.now c.args.at c.loop-b.b-index c.args.many c.loop-b.v (omega arith) _ refl c.requires.0 c.loop-b.invariant.in_range in
+    record { fits = omega (arith, k.1) }
 
 pub overflow_add-v : goal.overflow_add-v
 overflow_add-v c =
-    record { fits = room _ _ (room_next _ _ _ c.loop-left-test.true c.loop-left.invariant.0 c.loop-left.invariant.1.1.1.0 c.digit.ensures.1) }
+    let e = c.unwrap_or.ensures ∙ ap (λ o. unwrap_or o 0) c.digit.ensures in
+    record { fits = (fits _ _ _ _ c.loop-b.v (omega arith) _ e c.requires.0 c.loop-b.invariant.in_range).1 }
 
-pub loop-left-preserved : goal.loop-left-preserved
-loop-left-preserved c =
-    let d : c.digit.result ≡ digit (get_or c.args.line.now c.loop-left.place 0) = c.digit.ensures.0 ∙ ap digit c.character.ensures in (
-      omega arith,
-      (
-        omega arith,
-        (
-          c.loop-left.invariant.1.1.0,
-          (
-            room_next _ _ _ c.loop-left-test.true c.loop-left.invariant.0 c.loop-left.invariant.1.1.1.0 c.digit.ensures.1,
-            c.loop-left.invariant.1.1.1.1 ∙ number_next _ _ _ _ c.loop-left-test.true ∙ simp d,
-          ),
-        ),
-      ),
-    )
+pub loop-b-preserved : goal.loop-b-preserved
+loop-b-preserved c =
+    let e = c.unwrap_or.ensures ∙ ap (λ o. unwrap_or o 0) c.digit.ensures in
+    record {
+      in_range = (fits _ _ _ _ c.loop-b.v (omega arith) _ e c.requires.0 c.loop-b.invariant.in_range).0;
+      is = c.loop-b.invariant.is ∙ number_next _ _ _ _ _ (omega arith) _ e;
+    }
 
 pub returns : goal.returns
-returns c = sym (c.loop-left.invariant.1.1.1.1 ∙ number_end _ _ _ _ c.loop-left-test.false)
+returns c = sym (c.loop-b.invariant.is ∙ number_end _ _ _ _ _ (omega arith))

@@ -1,5 +1,5 @@
--- A number cut to m is known by any number that differs from it by whole multiples of m; so cutting goes with sums, differences and products.
-use Rattle.std.proofs.Common.{◌≡◌, ℕ, zero, suc, ◌+◌, ◌-◌, ◌*◌, ◌/◌, ◌%◌, ◌^◌, ◌<◌, ◌≤◌, Bool, true, false, ltb, ℤ, pos, negsuc, ◌+ℤ◌, ◌-ℤ◌, ◌*ℤ◌, neg_ℤ, sym, refl, ap, ◌∙◌, mod-lt, mod-eq_of_lt, mul_comm, add-mul, div-add-mod', mul-add, arith, of_z, ltb-false, ltb-true}
+-- A number cut to m is known by any number that differs from it by whole multiples of m; so cutting goes with sums and differences.
+use Rattle.std.proofs.Common.{◌≡◌, ℕ, zero, suc, ◌+◌, ◌-◌, ◌*◌, ◌/◌, ◌%◌, ◌^◌, ◌<◌, Bool, true, false, ltb, ℤ, pos, negsuc, ◌+ℤ◌, ◌-ℤ◌, neg_ℤ, sym, refl, ap, ◌∙◌, mod-lt, mod-eq_of_lt, add-mul, div-add-mod', arith, of_z, ltb-false, ltb-true}
 use native.Mathlib.Nat.{add-mul-mod_self_right}
 use lib.IntN.{sub_ℕ}
 use lib.Signed.{mag}
@@ -34,7 +34,7 @@ pub of_negated : (m n r p q : ℕ) → 0 < m → p * m ≡ r + q * m + n → r %
 of_negated m zero r p q h e = from_zero m 0 r p q (omega arith)
 of_negated m (suc n) r p q h e = below_zero_lem m n r p q h e
 
--- sums, differences and products of patterns are those of the numbers that they are
+-- sums and differences of patterns are those of the numbers that they are
 module _ (w : Width) (h : 0 < 2 ^ bits w) where
   pub sums : (x y : ℤ) → mag x < 2 ^ bits w → mag y < 2 ^ bits w → (of_z w x + of_z w y) % 2 ^ bits w ≡ cut (2 ^ bits w) (x +ℤ y)
   sums (pos a) (pos b) f g = refl
@@ -49,21 +49,3 @@ module _ (w : Width) (h : 0 < 2 ^ bits w) where
   differences (negsuc a) (pos zero) f g = of_difference _ 0 (suc a) _ 2 0 h (omega arith)
   differences (negsuc a) (pos (suc b)) f g = below_zero_lem _ (suc (a + b)) _ 2 0 h (omega arith)
   differences (negsuc a) (negsuc b) f g = of_difference _ (suc b) (suc a) _ 1 0 h (omega arith)
-
-  -- a product with the rest of one factor
-  rest : (a b : ℕ) → b ≤ 2 ^ bits w → a * 2 ^ bits w ≡ a * (2 ^ bits w - b) + a * b
-  rest a b g = ap (λ (n : ℕ). a * n) (omega arith) ∙ mul-add a (2 ^ bits w - b) b
-
-  pub products : (x y : ℤ) → mag x < 2 ^ bits w → mag y < 2 ^ bits w → (of_z w x * of_z w y) % 2 ^ bits w ≡ cut (2 ^ bits w) (x *ℤ y)
-  products (pos a) (pos b) f g = refl
-  products (pos a) (negsuc b) f g = of_negated _ (a * suc b) _ a 0 h (omega (arith, rest a (suc b) g))
-  products (negsuc a) (pos b) f g = of_negated _ (suc a * b) _ b 0 h (omega (arith, rest b (suc a) f, mul_comm b (2 ^ bits w - suc a), mul_comm b (suc a)))
-  products (negsuc a) (negsuc b) f g =
-      from_zero _ (suc a * suc b) _ (2 ^ bits w - suc b) (suc a)
-      (omega (
-        arith,
-        rest (suc a) (suc b) g,
-        rest (2 ^ bits w - suc b) (suc a) f,
-        mul_comm (2 ^ bits w - suc b) (2 ^ bits w - suc a),
-        mul_comm (2 ^ bits w - suc b) (suc a),
-      ))

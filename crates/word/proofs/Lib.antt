@@ -1,12 +1,10 @@
 -- The laws over the width that the functions' proofs cite, and the uniqueness of each contract.
 pub mod Cut
 pub mod Registers
-pub mod Patterns
 pub mod SumLaws
 pub mod Overflow
 pub mod CompareLaws
 pub mod ShiftLaws
-pub mod Columns
 pub mod ProductLaws
 pub mod QuotientLaws
 pub mod LogicLaws

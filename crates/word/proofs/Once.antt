@@ -11,14 +11,8 @@ use Rattle.word.proofs.reading.extend_byte.Kinds as extend-byte-kinds
 use Rattle.word.proofs.reading.extend_byte.Reads as extend-byte-reads
 use Rattle.word.proofs.reading.extend_immediate.Kinds as extend-immediate-kinds
 use Rattle.word.proofs.reading.extend_immediate.Reads as extend-immediate-reads
-use Rattle.word.proofs.reading.signed64.Kinds as signed64-kinds
-use Rattle.word.proofs.reading.signed64.Reads as signed64-reads
 use Rattle.word.proofs.reading.signed32.Kinds as signed32-kinds
 use Rattle.word.proofs.reading.signed32.Reads as signed32-reads
-use Rattle.word.proofs.reading.magnitude.Kinds as magnitude-kinds
-use Rattle.word.proofs.reading.magnitude.Reads as magnitude-reads
-use Rattle.word.proofs.reading.pattern64.Kinds as pattern64-kinds
-use Rattle.word.proofs.reading.pattern64.Reads as pattern64-reads
 use Rattle.word.proofs.reading.pattern32.Kinds as pattern32-kinds
 use Rattle.word.proofs.reading.pattern32.Reads as pattern32-reads
 use Rattle.word.proofs.sums.addu.Kinds as addu-kinds
@@ -81,8 +75,6 @@ use Rattle.word.proofs.shifts.dsrl32.Kinds as dsrl32-kinds
 use Rattle.word.proofs.shifts.dsrl32.Reads as dsrl32-reads
 use Rattle.word.proofs.shifts.dsra32.Kinds as dsra32-kinds
 use Rattle.word.proofs.shifts.dsra32.Reads as dsra32-reads
-use Rattle.word.proofs.products.wrapped_product.Kinds as wrapped-product-kinds
-use Rattle.word.proofs.products.wrapped_product.Reads as wrapped-product-reads
 use Rattle.word.proofs.products.word_halves.Kinds as word-halves-kinds
 use Rattle.word.proofs.products.word_halves.Reads as word-halves-reads
 use Rattle.word.proofs.products.mult.Kinds as mult-kinds
@@ -118,17 +110,8 @@ extend_byte_once κs a p z₁ z₂ ws₁ ws₂ h₁ h₂ = (same h₁ h₂, refl
 pub extend_immediate_once : Unique extend-immediate-kinds.ps extend-immediate-kinds.r extend-immediate-reads.Pre extend-immediate-reads.Post
 extend_immediate_once κs a p z₁ z₂ ws₁ ws₂ h₁ h₂ = (same h₁ h₂, refl)
 
-pub signed64_once : Unique signed64-kinds.ps signed64-kinds.r signed64-reads.Pre signed64-reads.Post
-signed64_once κs a p z₁ z₂ ws₁ ws₂ h₁ h₂ = (same h₁ h₂, refl)
-
 pub signed32_once : Unique signed32-kinds.ps signed32-kinds.r signed32-reads.Pre signed32-reads.Post
 signed32_once κs a p z₁ z₂ ws₁ ws₂ h₁ h₂ = (same h₁ h₂, refl)
-
-pub magnitude_once : Unique magnitude-kinds.ps magnitude-kinds.r magnitude-reads.Pre magnitude-reads.Post
-magnitude_once κs a p z₁ z₂ ws₁ ws₂ h₁ h₂ = (same h₁ h₂, refl)
-
-pub pattern64_once : Unique pattern64-kinds.ps pattern64-kinds.r pattern64-reads.Pre pattern64-reads.Post
-pattern64_once κs a p z₁ z₂ ws₁ ws₂ h₁ h₂ = (same h₁ h₂, refl)
 
 pub pattern32_once : Unique pattern32-kinds.ps pattern32-kinds.r pattern32-reads.Pre pattern32-reads.Post
 pattern32_once κs a p z₁ z₂ ws₁ ws₂ h₁ h₂ = (same h₁ h₂, refl)
@@ -228,9 +211,6 @@ pub dsra32_once : Unique dsra32-kinds.ps dsra32-kinds.r dsra32-reads.Pre dsra32-
 dsra32_once κs a p z₁ z₂ ws₁ ws₂ h₁ h₂ = (same h₁ h₂, refl)
 
 -- products
-pub wrapped_product_once : Unique wrapped-product-kinds.ps wrapped-product-kinds.r wrapped-product-reads.Pre wrapped-product-reads.Post
-wrapped_product_once κs a p z₁ z₂ ws₁ ws₂ h₁ h₂ = (same h₁ h₂, refl)
-
 pub word_halves_once : Unique word-halves-kinds.ps word-halves-kinds.r word-halves-reads.Pre word-halves-reads.Post
 word_halves_once κs a p z₁ z₂ ws₁ ws₂ h₁ h₂ = (same h₁ h₂, refl)
 

@@ -1,16 +1,16 @@
 -- Products over the width: HI and LO are the halves of the number that the product is, cut to twice the width.
-use Rattle.std.proofs.Common.{◌≡◌, ℕ, zero, suc, ◌+◌, ◌-◌, ◌*◌, ◌/◌, ◌%◌, ◌^◌, ◌<◌, ◌≤◌, ℤ, pos, negsuc, ◌*ℤ◌, neg_ℤ, nat_abs, sym, ap, ◌∙◌, lt_of_le_of_lt, le_of_lt, mod-lt, mod-eq_of_lt, div-lt_iff_lt-mul, add-mul, mul-le-mul_left, mul-lt-mul_of_pos_right, mul-pos, div-add-mod', arith, lit<, pow_pos, w32, w64}
-use native.Mathlib.Nat.{mod-mod, mod_self, zero-mod, zero-div}
+use Rattle.std.proofs.Common.{◌≡◌, ℕ, suc, ◌+◌, ◌-◌, ◌*◌, ◌/◌, ◌%◌, ◌^◌, ◌<◌, ◌≤◌, ℤ, pos, negsuc, ◌*ℤ◌, nat_abs, sym, ap, ◌∙◌, mod-lt, mod-eq_of_lt, add-mul, mul-pos, div-add-mod', arith, lit<, pow_pos, w64, of_z, to_z, mul-le-mul}
+use native.Mathlib.Nat.{mod-mod}
 use lib.Arith.{digits_div, digits_mod, mod-mul}
-use lib.Signed.{shr_z}
+use lib.Signed.{mag, shr_z, nat_abs-le}
 use mir.Syntax.{Width}
 use mir.Val.{bits, hbits}
-use mir.ValLaws.{to_z_pos}
+use mir.ValLaws.{pow-bits, of_z-to_z}
+use Rattle.std.proofs.lemmas.Int.{unsigned_abs-mul}
 use Rattle.word.specs.declared.HiLo.{HiLo}
-use Rattle.word.specs.Extend.{low, signed, cut, extend}
-use Rattle.word.specs.Product.{halves}
-use Rattle.word.proofs.Cut as Cut
-use Rattle.word.proofs.Registers.{to_z_high, holds, signed_mag, whole}
+use Rattle.word.specs.Extend.{signed, cut, extend}
+use Rattle.word.specs.Product.{halves, product}
+use Rattle.word.proofs.Registers.{holds, signed_fits, cut_within, whole}
 
 -- a number of two digits to the base m, and what is left of m * m without it
 rest : (m h l : ℕ) → h < m → l < m → m * m - suc (h * m + l) ≡ (m - suc h) * m + (m - suc l)
@@ -52,59 +52,6 @@ halves_of_digits w h l n f e =
       lo = holds w (pos n) l (mod-eq_of_lt f ∙ sym (digits_mod h f) ∙ ap (λ (k : ℕ). k % 2 ^ bits w) e) i;
     })
 
--- a number with its sign turned, divided by m and rounded down
-down : (m n q r : ℕ) → r < m → n ≡ suc (q * m + r) → shr_z (neg_ℤ (pos n)) m ≡ negsuc q
-down m n q r f e = ap (λ (k : ℕ). shr_z (neg_ℤ (pos k)) m) e ∙ ap negsuc (digits_div q f)
-
-down_even : (m n h : ℕ) → 0 < m → n ≡ h * m → shr_z (neg_ℤ (pos n)) m ≡ neg_ℤ (pos h)
-down_even m n zero p e = let z : n ≡ 0 = omega arith in ap (λ (k : ℕ). shr_z (neg_ℤ (pos k)) m) z ∙ ap pos (zero-div m)
-down_even m n (suc h) p e = down m n h (m - 1) (omega arith) (omega (arith, add-mul h 1 m))
-
--- of two digits h and l with the sign turned: where the lower is 0, and where it is not
-module _ (w : Width) (h l n s : ℕ) (f : l < 2 ^ bits w) (e : h * 2 ^ bits w + l ≡ n) (d : s + h + 1 ≡ 2 ^ bits w) where
-  lower : (t : ℕ) → t + l ≡ 2 ^ bits w → t % 2 ^ bits w ≡ cut (2 ^ bits w) (neg_ℤ (pos n))
-  lower t k = Cut.of_negated (2 ^ bits w) n t (suc h) 0 (pow_pos (bits w)) (omega (arith, add-mul h 1 (2 ^ bits w)))
-
-  pub turned_even : (r : ℕ) → l ≡ 0 → r ≡ (s + 1) % 2 ^ bits w → record { hi = extend w r; lo = extend w 0 } ≡ halves w (neg_ℤ (pos n))
-  unfolding halves
-  turned_even r z k =
-      (λ i. record {
-        hi = holds w (shr_z (neg_ℤ (pos n)) (2 ^ bits w)) r
-            (ap (λ (q : ℕ). q % 2 ^ bits w) k ∙ mod-mod (s + 1) (2 ^ bits w)
-            ∙ Cut.of_negated (2 ^ bits w) h (s + 1) 1 0 (pow_pos (bits w)) (omega arith)
-            ∙ ap (cut (2 ^ bits w)) (sym (down_even (2 ^ bits w) n h (pow_pos (bits w)) (omega arith)))) i;
-        lo = holds w (neg_ℤ (pos n)) 0 (zero-mod (2 ^ bits w) ∙ sym (mod_self (2 ^ bits w)) ∙ lower (2 ^ bits w) (omega arith)) i;
-      })
-
-  pub turned_odd : (t : ℕ) → (l ≡ 0 → ⊥) → t + l ≡ 2 ^ bits w → record { hi = extend w s; lo = extend w t } ≡ halves w (neg_ℤ (pos n))
-  unfolding halves
-  turned_odd t z k =
-      (λ i. record {
-        hi = holds w (shr_z (neg_ℤ (pos n)) (2 ^ bits w)) s
-            (Cut.below_zero_lem (2 ^ bits w) h s 1 0 (pow_pos (bits w)) (omega arith)
-            ∙ ap (cut (2 ^ bits w)) (sym (down (2 ^ bits w) n h (l - 1) (omega arith) (omega arith)))) i;
-        lo = holds w (neg_ℤ (pos n)) t (lower t k) i;
-      })
-
--- the product of words: that of their extensions, cut to 64 bits
-pub extended_product : (a b : ℕ) → extend w32 a * extend w32 b % 2 ^ 64 ≡ cut (2 ^ 64) (signed w32 a *ℤ signed w32 b)
-unfolding extend
-extended_product a b = Cut.products w64 (lit< tt) (signed w32 a) (signed w32 b) (omega (arith, signed_mag w32 a)) (omega (arith, signed_mag w32 b))
-
--- a signed product by the signs and the magnitudes m and n
-module _ (w : Width) (a b m n : ℕ) (em : m ≡ nat_abs (signed w a)) (en : n ≡ nat_abs (signed w b)) where
-  pub both_low : low w a < 2 ^ hbits w → low w b < 2 ^ hbits w → pos (m * n) ≡ signed w a *ℤ signed w b
-  both_low h k = rw (em, en, to_z_pos w (low w a) h, to_z_pos w (low w b) k)
-
-  pub both_high : 2 ^ hbits w ≤ low w a → 2 ^ hbits w ≤ low w b → pos (m * n) ≡ signed w a *ℤ signed w b
-  both_high h k = rw (em, en, to_z_high w (low w a) h, to_z_high w (low w b) k)
-
-  pub low_high : low w a < 2 ^ hbits w → 2 ^ hbits w ≤ low w b → neg_ℤ (pos (m * n)) ≡ signed w a *ℤ signed w b
-  low_high h k = rw (em, en, to_z_pos w (low w a) h, to_z_high w (low w b) k)
-
-  pub high_low : 2 ^ hbits w ≤ low w a → low w b < 2 ^ hbits w → neg_ℤ (pos (m * n)) ≡ signed w a *ℤ signed w b
-  high_low h k = rw (em, en, to_z_high w (low w a) h, to_z_pos w (low w b) k)
-
 -- what is cut is below m, so it is cut already
 cut_again : (m : ℕ) → 0 < m → (z : ℤ) → cut m z % m ≡ cut m z
 cut_again m p (pos n) = mod-mod n m
@@ -120,21 +67,34 @@ halves_cut w z p e =
 pub wholes : (h l : ℕ) → h < 2 ^ 64 → l < 2 ^ 64 → ◌≡◌ {A = HiLo} (record { hi = h; lo = l }) (record { hi = extend w64 h; lo = extend w64 l })
 wholes h l f g = (λ i. record { hi = whole h f i; lo = whole l g i })
 
--- the digits of a number to the base 2^64
-pub digits : (h l n : ℕ) → l < 2 ^ 64 → h * 2 ^ 64 + l ≡ n → ◌≡◌ {A = HiLo} (record { hi = h; lo = l }) (record { hi = n / 2 ^ 64; lo = n % 2 ^ 64 })
-digits h l n f e =
-    (λ i. record {
-      hi = (sym (digits_div h f) ∙ ap (λ (k : ℕ). k / 2 ^ 64) e) i;
-      lo = (sym (digits_mod h f) ∙ ap (λ (k : ℕ). k % 2 ^ 64) e) i;
-    })
+-- the halves of a number of two doublewords are its digits
+pub double_digits : (p : ℕ) → p < 2 ^ 128 → record { hi = p / 2 ^ 64; lo = p % 2 ^ 64 } ≡ halves w64 (pos p)
+double_digits p f =
+    wholes (p / 2 ^ 64) (p % 2 ^ 64) (omega arith) (mod-lt p (lit< tt)) ∙ halves_of_digits w64 (p / 2 ^ 64) (p % 2 ^ 64) p (mod-lt p (lit< tt)) (div-add-mod' p (2 ^ 64))
 
--- those of a product of doublewords are its halves
-below : (m a b : ℕ) → a < m → b < m → a * b / m < m
-below m a b f g =
-    let p : 0 < m = omega arith in
-    (div-lt_iff_lt-mul p).1 (lt_of_le_of_lt (mul-le-mul_left a (le_of_lt g)) (mul-lt-mul_of_pos_right f p))
+-- the product of two signed numbers, in a type w of twice the width v
+module _ (v w : Width) (d : 2 ^ bits v * 2 ^ bits v ≡ 2 ^ bits w) (a b : ℕ) where
+  mag_abs : (z : ℤ) → mag z ≤ nat_abs z
+  mag_abs (pos n) = omega arith
+  mag_abs (negsuc n) = omega arith
 
-pub long_halves : (a b : ℕ) → a < 2 ^ 64 → b < 2 ^ 64 → record { hi = a * b / 2 ^ 64; lo = a * b % 2 ^ 64 } ≡ halves w64 (pos (a * b))
-long_halves a b f g =
-    wholes (a * b / 2 ^ 64) (a * b % 2 ^ 64) (below (2 ^ 64) a b f g) (mod-lt (a * b) (lit< tt))
-    ∙ halves_of_digits w64 (a * b / 2 ^ 64) (a * b % 2 ^ 64) (a * b) (mod-lt (a * b) (lit< tt)) (div-add-mod' (a * b) (2 ^ 64))
+  pattern : (z : ℤ) → mag z < 2 ^ bits w → of_z w z < 2 ^ bits w
+  pattern (pos n) h = h
+  pattern (negsuc n) h = omega arith
+
+  within : mag (signed v a *ℤ signed v b) < 2 ^ bits w
+  within =
+      let H = 2 ^ hbits v in
+      let B = 2 ^ bits v in
+      let f : nat_abs (signed v b) ≤ B = omega (arith, nat_abs-le (signed v b) (signed_fits v b).sfits, pow-bits v) in
+      let m : nat_abs (signed v a) * nat_abs (signed v b) ≤ H * B = mul-le-mul (nat_abs-le (signed v a) (signed_fits v a).sfits) f in
+      let t : B ≡ H + H = omega (arith, pow-bits v) in
+      let s : B * B ≡ H * B + H * B = ap (λ (n : ℕ). n * B) t ∙ add-mul H H B in
+      omega (arith, mag_abs (signed v a *ℤ signed v b), unsigned_abs-mul (signed v a) (signed v b), m, s, mul-pos (pow_pos (hbits v)) (pow_pos (bits v)), d)
+
+  pub product_is : {x y : ℤ} {p : ℕ} → x ≡ signed v a → y ≡ signed v b → p ≡ of_z w (to_z w (of_z w (x *ℤ y))) → halves v (pos p) ≡ product v a b
+  unfolding product
+  product_is {x} {y} {p} ex ey e =
+      let z = signed v a *ℤ signed v b in
+      let c : of_z w z ≡ cut (2 ^ bits v * 2 ^ bits v) z = sym (cut_within w z within) ∙ ap (λ (n : ℕ). cut n z) (sym d) in
+      halves_cut v z p (e ∙ (λ i. of_z w (to_z w (of_z w (ex i *ℤ ey i)))) ∙ of_z-to_z w (of_z w z) (record { fits = pattern z within }) ∙ c)

@@ -1,5 +1,5 @@
 -- Shifts over the width: which register the code's shift of a register, or of a signed number, is.
-use Rattle.std.proofs.Common.{◌≡◌, ℕ, ◌+◌, ◌*◌, ◌/◌, ◌%◌, ◌^◌, ℤ, pos, sym, ap, ◌∙◌, mul_assoc, mul_comm, add-mul, div-add-mod', arith, w64, SFits, to_z, of_z}
+use Rattle.std.proofs.Common.{◌≡◌, ℕ, ◌+◌, ◌*◌, ◌/◌, ◌%◌, ◌^◌, ℤ, pos, sym, refl, ap, mod-lt, lit<, div-le_self, ◌∙◌, mul_assoc, mul_comm, add-mul, div-add-mod', arith, w64, Fits, SFits, to_z, of_z}
 use lib.Pow.{mod-mod-pow}
 use lib.Signed.{shr_z, mag_shr}
 use mir.Syntax.{Width}
@@ -8,7 +8,7 @@ use mir.ValLaws.{sfits_le, to_z-of_z}
 use Rattle.word.specs.Extend.{low, unsigned, signed, extend}
 use Rattle.word.specs.Shift.{left, right, right_signed}
 use Rattle.word.proofs.Cut as Cut
-use Rattle.word.proofs.Registers.{holds, signed_fits, register_fits}
+use Rattle.word.proofs.Registers.{low_whole, whole, holds, signed_fits, register_fits}
 use Rattle.word.proofs.CompareLaws.{seen}
 
 -- a factor may be cut first
@@ -41,3 +41,10 @@ module _ (w : Width) (x n : ℕ) where
   pub right_signed_is : (z : ℤ) → z ≡ shr_z (signed w x) (2 ^ n) → of_z w64 z ≡ right_signed w n x
   unfolding right_signed
   right_signed_is z e = ap (of_z w64) e ∙ sym (register_fits w (shr_z (signed w x) (2 ^ n)) shifted)
+
+-- doublewords are their own extensions and their own low bits
+pub left_whole : (x n : ℕ) → x * 2 ^ n % 2 ^ 64 ≡ left w64 n x
+left_whole x n = whole _ (mod-lt (x * 2 ^ n) (lit< tt)) ∙ left_is w64 x n 0 _ refl
+
+pub right_whole : (x n : ℕ) → Fits w64 x → x / 2 ^ n ≡ right w64 n x
+right_whole x n f = whole _ (omega (arith, f.fits, div-le_self x (2 ^ n))) ∙ right_is w64 x n _ (ap (λ (k : ℕ). k / 2 ^ n) (sym (low_whole x f)))

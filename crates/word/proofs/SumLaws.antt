@@ -1,5 +1,5 @@
 -- Sums and differences over the width: the register that holds one has the low bits of the wrapped sum or difference of registers.
-use Rattle.std.proofs.Common.{◌≡◌, ℕ, ◌+◌, ◌-◌, ◌*◌, ◌/◌, ◌%◌, ◌^◌, ◌<◌, ◌+ℤ◌, ◌-ℤ◌, sym, ap, ◌∙◌, mod-lt, div-add-mod', arith, pow_pos}
+use Rattle.std.proofs.Common.{◌≡◌, ℕ, ◌+◌, ◌-◌, ◌*◌, ◌/◌, ◌%◌, ◌^◌, ◌<◌, ◌≤◌, ◌+ℤ◌, ◌-ℤ◌, sym, ap, ◌∙◌, mod-lt, div-add-mod', arith, pow_pos}
 use native.Mathlib.Nat.{mod-mod, add-mod}
 use lib.Pow.{mod-mod-pow}
 use mir.Syntax.{Width}
@@ -37,8 +37,11 @@ difference_low w a b r e =
     ∙ Cut.differences w (pow_pos (bits w)) (signed w a) (signed w b) (signed_mag w a) (signed_mag w b))
 
 -- it is the wrapped difference of the registers, or of their low bits
-pub difference_is : (j : ℕ) (w : Width) (a b r : ℕ) → (r + b) % 2 ^ (j + bits w) ≡ a → extend w r ≡ difference w a b
-difference_is j w a b r e =
+pub difference_is : (j : ℕ) (w : Width) (a b r : ℕ) → b ≤ 2 ^ (j + bits w) → r ≡ (a + (2 ^ (j + bits w) - b)) % 2 ^ (j + bits w) → extend w r ≡ difference w a b
+difference_is j w a b r h e =
+    let m = 2 ^ (j + bits w) in
+    let d = div-add-mod' (a + (m - b)) m in
+    let back : (r + b) % m ≡ a % m = Cut.same m (r + b) a 1 ((a + (m - b)) / m) (omega arith) in
     difference_low w a b r
     (less (2 ^ bits w) a b r (pow_pos (bits w))
-    (sym (add-mod r b (2 ^ bits w)) ∙ sym (mod-mod-pow (r + b) j (bits w)) ∙ ap (λ (n : ℕ). n % 2 ^ bits w) e))
+    (sym (add-mod r b (2 ^ bits w)) ∙ sym (mod-mod-pow (r + b) j (bits w)) ∙ ap (λ (n : ℕ). n % 2 ^ bits w) back ∙ mod-mod-pow a j (bits w)))

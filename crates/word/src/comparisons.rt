@@ -2,43 +2,32 @@
 ghost use Rattle.std.specs.Prelude.{◌≡◌};
 ghost use Rattle.word.specs.Word as Word;
 
-use crate::reading::signed64;
-
 // SLT: 1 where the first is less, both read as signed, else 0.
 pub fn slt(a: u64, b: u64) -> u64
     ensures { result ≡ Word.slt a b }
 {
-    if tlt(a, b) {
-        return 1;
-    }
-    0
+    u64::from(tlt(a, b))
 }
 
 // SLTU: 1 where the first is less, both read as unsigned, else 0.
 pub fn sltu(a: u64, b: u64) -> u64
     ensures { result ≡ Word.sltu a b }
 {
-    if a < b {
-        return 1;
-    }
-    0
+    u64::from(a < b)
 }
 
 // TLT: the first is less, both read as signed.
 pub fn tlt(a: u64, b: u64) -> bool
     ensures { result ≡ Word.tlt a b }
 {
-    signed64(a) < signed64(b)
+    a.cast_signed() < b.cast_signed()
 }
 
 // TGE: the first is not less, both read as signed.
 pub fn tge(a: u64, b: u64) -> bool
     ensures { result ≡ Word.tge a b }
 {
-    if tlt(a, b) {
-        return false;
-    }
-    true
+    !tlt(a, b)
 }
 
 // TLTU: the first is less, both read as unsigned.
@@ -52,10 +41,7 @@ pub fn tltu(a: u64, b: u64) -> bool
 pub fn tgeu(a: u64, b: u64) -> bool
     ensures { result ≡ Word.tgeu a b }
 {
-    if a < b {
-        return false;
-    }
-    true
+    a >= b
 }
 
 // TEQ: the two are the same.
@@ -69,8 +55,5 @@ pub fn teq(a: u64, b: u64) -> bool
 pub fn tne(a: u64, b: u64) -> bool
     ensures { result ≡ Word.tne a b }
 {
-    if a == b {
-        return false;
-    }
-    true
+    a != b
 }

@@ -4,21 +4,15 @@ ghost use Rattle.word.specs.Word as Word;
 ghost use Rattle.word.specs.Quotient as Quotient;
 
 use crate::HiLo;
-use crate::reading::{extend, low_word, pattern32, pattern64, signed32, signed64};
+use crate::reading::{extend, low_word, pattern32, signed32};
 
 // A zero divisor: the dividend stays in HI; LO is all ones, or 1 where the dividend is read as signed and is negative.
 fn by_zero(dividend: u64, negative: bool) -> HiLo
     ensures { result ≡ Quotient.leaves dividend negative }
 {
-    if negative {
-        return HiLo {
-            hi: dividend,
-            lo: 1,
-        };
-    }
     HiLo {
         hi: dividend,
-        lo: 0xffff_ffff_ffff_ffff,
+        lo: if negative { 1 } else { u64::MAX },
     }
 }
 
@@ -50,50 +44,32 @@ pub fn ddivu(a: u64, b: u64) -> HiLo
     }
 }
 
-// DIV: the quotient of two words, read as signed.
+// DIV: the quotient of two words, read as signed; the least by -1 is itself.
 pub fn div(a: u64, b: u64) -> HiLo
     ensures { result ≡ Word.div a b }
 {
-    let low = low_word(a);
-    let by = low_word(b);
-    if by == 0 {
-        return by_zero(extend(a), 0x8000_0000 <= low);
-    }
-    if by == 0xffff_ffff {
-        if low == 0x8000_0000 {
-            return HiLo {
-                hi: 0,
-                lo: 0xffff_ffff_8000_0000,
-            };
-        }
-    }
     let x = signed32(a);
     let y = signed32(b);
+    if y == 0 {
+        return by_zero(extend(a), x < 0);
+    }
     HiLo {
-        hi: pattern32(x % y),
-        lo: pattern32(x / y),
+        hi: pattern32(x.wrapping_rem(y)),
+        lo: pattern32(x.wrapping_div(y)),
     }
 }
 
-// DDIV: the quotient of two doublewords, read as signed.
+// DDIV: the quotient of two doublewords, read as signed; the least by -1 is itself.
 pub fn ddiv(a: u64, b: u64) -> HiLo
     ensures { result ≡ Word.ddiv a b }
 {
-    if b == 0 {
-        return by_zero(a, 0x8000_0000_0000_0000 <= a);
+    let x = a.cast_signed();
+    let y = b.cast_signed();
+    if y == 0 {
+        return by_zero(a, x < 0);
     }
-    if b == 0xffff_ffff_ffff_ffff {
-        if a == 0x8000_0000_0000_0000 {
-            return HiLo {
-                hi: 0,
-                lo: 0x8000_0000_0000_0000,
-            };
-        }
-    }
-    let x = signed64(a);
-    let y = signed64(b);
     HiLo {
-        hi: pattern64(x % y),
-        lo: pattern64(x / y),
+        hi: x.wrapping_rem(y).cast_unsigned(),
+        lo: x.wrapping_div(y).cast_unsigned(),
     }
 }

@@ -1,10 +1,8 @@
 // Shifts of words and doublewords, arithmetic ones on the signed types.
-ghost use Rattle.std.specs.Prelude.{◌≡◌, ◌<◌};
-ghost use Rattle.std.specs.Int.{w64};
-ghost use Rattle.word.specs.Shift.{left, right, right_signed};
+ghost use Rattle.std.specs.Prelude.{◌≡◌};
 ghost use Rattle.word.specs.Word as Word;
 
-use crate::reading::{extend, pattern32, pattern64, signed32, signed64};
+use crate::reading::{extend, low_word, pattern32, signed32};
 
 // SLL and SLLV: a word to the left by the low five bits of n.
 pub fn sll(x: u64, n: u64) -> u64
@@ -17,7 +15,7 @@ pub fn sll(x: u64, n: u64) -> u64
 pub fn srl(x: u64, n: u64) -> u64
     ensures { result ≡ Word.srl x n }
 {
-    extend(x % 0x1_0000_0000 >> (n % 32))
+    extend(low_word(x) >> (n % 32))
 }
 
 // SRA and SRAV: a word to the right by the low five bits of n, with copies of its sign above.
@@ -27,68 +25,44 @@ pub fn sra(x: u64, n: u64) -> u64
     pattern32(signed32(x) >> (n % 32))
 }
 
-// A doubleword to the left.
-fn double_left(x: u64, n: u64) -> u64
-    requires { n < 64 }
-    ensures { result ≡ left w64 n x }
-{
-    x << n
-}
-
-// A doubleword to the right, with zeros above.
-fn double_right(x: u64, n: u64) -> u64
-    requires { n < 64 }
-    ensures { result ≡ right w64 n x }
-{
-    x >> n
-}
-
-// A doubleword to the right, with copies of its sign above.
-fn double_right_signed(x: u64, n: u64) -> u64
-    requires { n < 64 }
-    ensures { result ≡ right_signed w64 n x }
-{
-    pattern64(signed64(x) >> n)
-}
-
 // DSLL and DSLLV: a doubleword to the left by the low six bits of n.
 pub fn dsll(x: u64, n: u64) -> u64
     ensures { result ≡ Word.dsll x n }
 {
-    double_left(x, n % 64)
+    x << (n % 64)
 }
 
 // DSRL and DSRLV: a doubleword to the right by the low six bits of n, with zeros above.
 pub fn dsrl(x: u64, n: u64) -> u64
     ensures { result ≡ Word.dsrl x n }
 {
-    double_right(x, n % 64)
+    x >> (n % 64)
 }
 
 // DSRA and DSRAV: a doubleword to the right by the low six bits of n, with copies of its sign above.
 pub fn dsra(x: u64, n: u64) -> u64
     ensures { result ≡ Word.dsra x n }
 {
-    double_right_signed(x, n % 64)
+    (x.cast_signed() >> (n % 64)).cast_unsigned()
 }
 
 // DSLL32: a doubleword to the left by 32 more than the low five bits of n.
 pub fn dsll32(x: u64, n: u64) -> u64
     ensures { result ≡ Word.dsll32 x n }
 {
-    double_left(x, n % 32 + 32)
+    x << (n % 32 + 32)
 }
 
 // DSRL32: a doubleword to the right by 32 more than the low five bits of n, with zeros above.
 pub fn dsrl32(x: u64, n: u64) -> u64
     ensures { result ≡ Word.dsrl32 x n }
 {
-    double_right(x, n % 32 + 32)
+    x >> (n % 32 + 32)
 }
 
 // DSRA32: a doubleword to the right by 32 more than the low five bits of n, with copies of its sign above.
 pub fn dsra32(x: u64, n: u64) -> u64
     ensures { result ≡ Word.dsra32 x n }
 {
-    double_right_signed(x, n % 32 + 32)
+    (x.cast_signed() >> (n % 32 + 32)).cast_unsigned()
 }

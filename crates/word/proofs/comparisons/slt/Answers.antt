@@ -1,9 +1,8 @@
 -- The test is the signed comparison.
-use Rattle.std.proofs.Common.{sym, ◌∙◌}
+use Rattle.std.proofs.Common.{ap, ◌∙◌}
+use Rattle.word.specs.Compare.{flag}
+use Rattle.word.proofs.CompareLaws.{flag_is}
 use Rattle.word.proofs.comparisons.slt.Goals as goal
 
-pub returns-then-tlt : goal.returns-then-tlt
-returns-then-tlt c = rw (sym c.tlt.ensures ∙ c.if-tlt.true)
-
 pub returns : goal.returns
-returns c = rw (sym c.tlt.ensures ∙ c.if-tlt.false)
+returns c = c.from.ensures ∙ flag_is _ ∙ ap flag c.tlt.ensures

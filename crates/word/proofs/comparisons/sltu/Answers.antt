@@ -1,10 +1,8 @@
 -- The test is the comparison of whole registers.
-use Rattle.std.proofs.Common.{le-ltb, lt-ltb}
-use Rattle.word.proofs.CompareLaws.{less_whole}
+use Rattle.std.proofs.Common.{sym, ap, ◌∙◌}
+use Rattle.word.specs.Compare.{flag}
+use Rattle.word.proofs.CompareLaws.{flag_is, less_whole}
 use Rattle.word.proofs.comparisons.sltu.Goals as goal
 
-pub returns-then-a-b : goal.returns-then-a-b
-returns-then-a-b c = rw (less_whole _ _ c.ranges.a c.ranges.b, lt-ltb _ _ c.if-a-b.true)
-
 pub returns : goal.returns
-returns c = rw (less_whole _ _ c.ranges.a c.ranges.b, le-ltb _ _ c.if-a-b.false)
+returns c = c.from.ensures ∙ flag_is _ ∙ ap flag (sym (less_whole _ _ c.ranges.a c.ranges.b))

@@ -1,9 +1,8 @@
--- The test is the signed comparison.
-use Rattle.std.proofs.Common.{sym, ◌∙◌}
+-- The test is the signed comparison, turned round.
+use Rattle.std.proofs.Common.{ap, ◌∙◌}
+use Rattle.promise.specs.Pick.{not}
+use Rattle.word.proofs.CompareLaws.{not_is}
 use Rattle.word.proofs.comparisons.tge.Goals as goal
 
-pub returns-then-tlt : goal.returns-then-tlt
-returns-then-tlt c = rw (sym c.tlt.ensures ∙ c.if-tlt.true)
-
 pub returns : goal.returns
-returns c = rw (sym c.tlt.ensures ∙ c.if-tlt.false)
+returns c = not_is _ ∙ ap not c.tlt.ensures

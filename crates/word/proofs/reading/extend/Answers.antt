@@ -1,10 +1,9 @@
--- Sign extension adds ones above the low bits where their highest is set.
-use Rattle.std.proofs.Common.{lit≤, w32}
-use Rattle.word.proofs.Registers.{extend_low, extend_high}
+-- The low word as a signed number, in a register.
+use Rattle.std.proofs.Common.{ap, ◌∙◌, w32, w64, of_z}
+use Rattle.word.specs.Extend.{extend}
+use Rattle.word.proofs.CompareLaws.{seen}
 use Rattle.word.proofs.reading.extend.Goals as goal
 
-pub returns-then-low-lt2147483648 : goal.returns-then-low-lt2147483648
-returns-then-low-lt2147483648 c = extend_low w32 _ c.if-low-lt2147483648.true
-
-pub returns-else-low-lt2147483648 : goal.returns-else-low-lt2147483648
-returns-else-low-lt2147483648 c = extend_high w32 _ (lit≤ tt) c.if-low-lt2147483648.false
+pub returns : goal.returns
+unfolding extend
+returns c = c.pattern32.ensures ∙ ap (of_z w64) (seen w32 c.args.x _ c.signed32.ensures)

@@ -1,10 +1,9 @@
--- Sign extension adds ones above the low bits where their highest is set.
-use Rattle.std.proofs.Common.{lit≤, w8}
-use Rattle.word.proofs.Registers.{extend_low, extend_high}
+-- The low bits as a signed number, in a register.
+use Rattle.std.proofs.Common.{ap, ◌∙◌, lit≤, w8, w64, of_z}
+use Rattle.word.specs.Extend.{extend}
+use Rattle.word.proofs.CompareLaws.{seen_wide}
 use Rattle.word.proofs.reading.extend_byte.Goals as goal
 
-pub returns-then-low-lt128 : goal.returns-then-low-lt128
-returns-then-low-lt128 c = extend_low w8 _ c.if-low-lt128.true
-
-pub returns-else-low-lt128 : goal.returns-else-low-lt128
-returns-else-low-lt128 c = extend_high w8 _ (lit≤ tt) c.if-low-lt128.false
+pub returns : goal.returns
+unfolding extend
+returns c = c.cast_unsigned.ensures ∙ ap (of_z w64) (seen_wide w8 w64 c.args.x (lit≤ tt) c.cast_signed.ensures c.from.ensures)

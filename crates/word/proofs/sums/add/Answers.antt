@@ -1,14 +1,11 @@
--- A sum overflows where it has another sign than both that were added.
-use Rattle.std.proofs.Common.{lit≤, w32}
-use Rattle.word.proofs.Overflow.{sum_checked}
+-- The signed type has a sum where it fits.
+use Rattle.std.proofs.Common.{◌+ℤ◌, ap, ◌∙◌, w32}
+use Rattle.word.specs.Sum.{checked, checked_sum}
+use Rattle.word.proofs.CompareLaws.{seen_both}
+use Rattle.word.proofs.Overflow.{checked_is}
 use Rattle.word.proofs.sums.add.Goals as goal
 
-pub returns-then-crosses : goal.returns-then-crosses
-returns-then-crosses c =
-    sum_checked w32 c.args.a c.args.b (lit≤ tt) _ _ _ _ _ c.extend.ensures c.extend-2.ensures
-    c.if-crosses.true c.addu-s.ensures c.crosses.ensures
-
 pub returns : goal.returns
-returns c =
-    sum_checked w32 c.args.a c.args.b (lit≤ tt) _ _ _ _ _ c.extend.ensures c.extend-2.ensures
-    c.if-crosses.false c.addu-s.ensures c.crosses.ensures
+unfolding checked_sum
+returns c = checked_is w32 _ _ _ c.checked_add.ensures c.map.ensures.cases
+    ∙ ap (checked w32) (seen_both w32 c.args.a c.args.b ◌+ℤ◌ c.signed32.ensures c.signed32-2.ensures)

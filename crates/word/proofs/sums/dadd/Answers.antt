@@ -1,15 +1,12 @@
--- A sum overflows where it has another sign than both that were added.
-use Rattle.std.proofs.Common.{lit≤, w64}
-use Rattle.word.proofs.Registers.{whole}
-use Rattle.word.proofs.Overflow.{sum_checked}
+-- The signed type has a sum where it fits.
+use Rattle.std.proofs.Common.{◌+ℤ◌, ap, ◌∙◌, w64}
+use Rattle.word.specs.Sum.{checked, checked_sum}
+use Rattle.word.proofs.CompareLaws.{seen_both}
+use Rattle.word.proofs.Overflow.{checked_is}
+use Rattle.word.proofs.Registers.{as_signed}
 use Rattle.word.proofs.sums.dadd.Goals as goal
 
-pub returns-then-crosses : goal.returns-then-crosses
-returns-then-crosses c =
-    sum_checked w64 c.args.a c.args.b (lit≤ tt) _ _ _ _ _ (whole c.args.a c.ranges.a.fits) (whole c.args.b c.ranges.b.fits)
-    c.if-crosses.true c.daddu-s.ensures c.crosses.ensures
-
 pub returns : goal.returns
-returns c =
-    sum_checked w64 c.args.a c.args.b (lit≤ tt) _ _ _ _ _ (whole c.args.a c.ranges.a.fits) (whole c.args.b c.ranges.b.fits)
-    c.if-crosses.false c.daddu-s.ensures c.crosses.ensures
+unfolding checked_sum
+returns c = checked_is w64 _ _ _ c.checked_add.ensures c.map.ensures.cases
+    ∙ ap (checked w64) (seen_both w64 c.args.a c.args.b ◌+ℤ◌ (as_signed c.args.a c.ranges.a c.cast_signed.ensures) (as_signed c.args.b c.ranges.b c.cast_signed-2.ensures))

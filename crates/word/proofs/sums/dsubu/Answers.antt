@@ -1,8 +1,8 @@
 -- A doubleword is its own extension, and the wrapped difference of registers is that of doublewords.
-use Rattle.std.proofs.Common.{◌∙◌, w64}
+use Rattle.std.proofs.Common.{refl, ◌∙◌, arith, w64}
 use Rattle.word.proofs.Registers.{whole}
 use Rattle.word.proofs.SumLaws.{difference_is}
 use Rattle.word.proofs.sums.dsubu.Goals as goal
 
 pub returns : goal.returns
-returns c = whole _ c.wrapping_sub_u64.type_inv ∙ difference_is 0 w64 c.args.a c.args.b _ c.wrapping_sub_u64.ensures.value
+returns c = whole _ (omega arith) ∙ difference_is 0 w64 c.args.a c.args.b _ (omega arith) refl

@@ -1,14 +1,11 @@
--- A difference overflows where adding back has another sign.
-use Rattle.std.proofs.Common.{lit≤, w32}
-use Rattle.word.proofs.Overflow.{difference_checked}
+-- The signed type has a difference where it fits.
+use Rattle.std.proofs.Common.{◌-ℤ◌, ap, ◌∙◌, w32}
+use Rattle.word.specs.Sum.{checked, checked_difference}
+use Rattle.word.proofs.CompareLaws.{seen_both}
+use Rattle.word.proofs.Overflow.{checked_is}
 use Rattle.word.proofs.sums.sub.Goals as goal
 
-pub returns-then-crosses : goal.returns-then-crosses
-returns-then-crosses c =
-    difference_checked w32 c.args.a c.args.b (lit≤ tt) _ _ _ _ _ c.extend-2.ensures c.extend.ensures
-    c.if-crosses.true c.subu-d.ensures c.crosses.ensures
-
 pub returns : goal.returns
-returns c =
-    difference_checked w32 c.args.a c.args.b (lit≤ tt) _ _ _ _ _ c.extend-2.ensures c.extend.ensures
-    c.if-crosses.false c.subu-d.ensures c.crosses.ensures
+unfolding checked_difference
+returns c = checked_is w32 _ _ _ c.checked_sub.ensures c.map.ensures.cases
+    ∙ ap (checked w32) (seen_both w32 c.args.a c.args.b ◌-ℤ◌ c.signed32.ensures c.signed32-2.ensures)

@@ -1,0 +1,6 @@
+-- A doubleword is shifted as a whole.
+use Rattle.word.proofs.ShiftLaws.{left_whole}
+use Rattle.word.proofs.shifts.dsll.Goals as goal
+
+pub returns : goal.returns
+returns c = left_whole _ _

@@ -75,8 +75,6 @@ use Rattle.word.proofs.shifts.dsrl32.Kinds as dsrl32-kinds
 use Rattle.word.proofs.shifts.dsrl32.Reads as dsrl32-reads
 use Rattle.word.proofs.shifts.dsra32.Kinds as dsra32-kinds
 use Rattle.word.proofs.shifts.dsra32.Reads as dsra32-reads
-use Rattle.word.proofs.products.word_halves.Kinds as word-halves-kinds
-use Rattle.word.proofs.products.word_halves.Reads as word-halves-reads
 use Rattle.word.proofs.products.mult.Kinds as mult-kinds
 use Rattle.word.proofs.products.mult.Reads as mult-reads
 use Rattle.word.proofs.products.multu.Kinds as multu-kinds
@@ -211,9 +209,6 @@ pub dsra32_once : Unique dsra32-kinds.ps dsra32-kinds.r dsra32-reads.Pre dsra32-
 dsra32_once κs a p z₁ z₂ ws₁ ws₂ h₁ h₂ = (same h₁ h₂, refl)
 
 -- products
-pub word_halves_once : Unique word-halves-kinds.ps word-halves-kinds.r word-halves-reads.Pre word-halves-reads.Post
-word_halves_once κs a p z₁ z₂ ws₁ ws₂ h₁ h₂ = (same h₁ h₂, refl)
-
 pub mult_once : Unique mult-kinds.ps mult-kinds.r mult-reads.Pre mult-reads.Post
 mult_once κs a p z₁ z₂ ws₁ ws₂ h₁ h₂ = (same h₁ h₂, refl)
 

@@ -34,7 +34,7 @@ module _ (m : ℕ) (pm : 0 < m) where
       ap (λ (k : ℕ). k % m) (ap (λ (k : ℕ). m * m - suc k) (mod-mul n pm pm) ∙ rest m (n / m % m) (n % m) (mod-lt (n / m) pm) (mod-lt n pm))
       ∙ digits_mod (m - suc (n / m % m)) (omega arith)
 
--- THE product's fact, signed or not: the two halves of the number cut to twice the width. A sum onto HI and LO cites it too.
+-- THE product's fact, signed or not: the two halves of the number cut to twice the width.
 pub halves_are : (w : Width) (z : ℤ) (p : ℕ) → p ≡ cut (2 ^ bits w * 2 ^ bits w) z → record { hi = extend w (p / 2 ^ bits w); lo = extend w p } ≡ halves w z
 unfolding halves
 halves_are w z p e =

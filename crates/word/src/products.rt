@@ -8,7 +8,7 @@ use crate::HiLo;
 use crate::reading::{extend, low_word, signed32};
 
 // A number of two words in HI and LO.
-pub fn word_halves(p: u64) -> HiLo
+fn word_halves(p: u64) -> HiLo
     ensures { result ≡ Product.halves w32 (pos p) }
 {
     HiLo {

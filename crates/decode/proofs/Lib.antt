@@ -1,4 +1,3 @@
--- Laws that the proofs cite, the rule of each table, and that each contract says all.
-pub mod Laws
+-- The rule of each table, and that each contract says all.
 pub mod Tables
 pub mod Once

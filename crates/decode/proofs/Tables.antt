@@ -1,71 +1,22 @@
--- The three tables of the code. Each has one rule, computed over the whole table: its numbers, read as entries, are the manual's map.
-use mathlib.Core.Path.{◌≡◌, refl}
-use mathlib.Core.List.{List, [], ◌∷◌, map}
-use Prim.Native.Nat.{ℕ}
-use lib.ListN.{get_or}
-use borrow.Author.Tests.{ne_eqb}
+-- The three tables of the code are the manual's maps. At a code a map holds one entry, whatever is said of the places past its end.
+use Rattle.std.proofs.Common.{◌≡◌, ℕ, get_or, ap, ◌∙◌}
+use Rattle.std.proofs.lemmas.List.{get_or_default}
 use Rattle.decode.specs.Fields.{opcode, funct, rt}
 use Rattle.decode.specs.Laws.{fits}
 use Rattle.decode.specs.Maps.{majors, specials, regimms}
-use Rattle.decode.specs.Maps.Major.{own}
-use Rattle.decode.specs.Maps.Entry.{reserved}
-use Rattle.decode.specs.Numbers.{entry_of, major_of}
-use Rattle.decode.proofs.Laws.{at}
+use Rattle.decode.specs.declared.maps.Entry.{Entry}
+use Rattle.decode.specs.declared.maps.Entry.TheVariants.{Reserved}
+use Rattle.decode.specs.declared.maps.Major.{Major}
+use Rattle.decode.specs.declared.maps.Major.TheVariants.{Own}
 
--- a number of the major table that names no submap stands for an entry of its own
-pub own_number : (n : ℕ) → (n ≡ 0x0d → ⊥) → (n ≡ 0x0e → ⊥) → major_of n ≡ own (entry_of n)
-unfolding major_of
-own_number n p q = simp (ne_eqb _ _ p, ne_eqb _ _ q)
+pub major_at : (w : ℕ) (d : Major) {k : ℕ} → k ≡ opcode w → get_or majors k d ≡ get_or majors (opcode w) (Own Reserved)
+unfolding majors
+major_at w d p = ap (λ i. get_or majors i d) p ∙ get_or_default majors (opcode w) d (Own Reserved) (fits w 26 6)
 
-abbrev pub major_table : List ℕ
-major_table =
-    0x0d ∷ 0x0e ∷ 0xc0 ∷ 0xc1 ∷ 0xb0 ∷ 0xb1 ∷ 0xb2 ∷ 0xb3
-    ∷ 0x40 ∷ 0x41 ∷ 0x44 ∷ 0x45 ∷ 0x60 ∷ 0x61 ∷ 0x62 ∷ 0x63
-    ∷ 0x00 ∷ 0x01 ∷ 0x02 ∷ 0x0f ∷ 0xb8 ∷ 0xb9 ∷ 0xba ∷ 0xbb
-    ∷ 0x42 ∷ 0x43 ∷ 0x19 ∷ 0x1a ∷ 0x0f ∷ 0x0f ∷ 0x0f ∷ 0x0f
-    ∷ 0x10 ∷ 0x12 ∷ 0x17 ∷ 0x14 ∷ 0x11 ∷ 0x13 ∷ 0x18 ∷ 0x15
-    ∷ 0x20 ∷ 0x21 ∷ 0x24 ∷ 0x22 ∷ 0x26 ∷ 0x27 ∷ 0x25 ∷ 0x03
-    ∷ 0x1b ∷ 0x01 ∷ 0x02 ∷ 0x0f ∷ 0x1c ∷ 0x01 ∷ 0x02 ∷ 0x16
-    ∷ 0x28 ∷ 0x01 ∷ 0x02 ∷ 0x0f ∷ 0x29 ∷ 0x01 ∷ 0x02 ∷ 0x23
-    ∷ []
+pub special_at : (w : ℕ) (d : Entry) {k : ℕ} → k ≡ funct w → get_or specials k d ≡ get_or specials (funct w) Reserved
+unfolding specials
+special_at w d p = ap (λ i. get_or specials i d) p ∙ get_or_default specials (funct w) d Reserved (fits w 0 6)
 
-major_rule : map major_of major_table ≡ majors
-unfolding major_of entry_of majors
-major_rule = refl
-
-pub major_at : (w : ℕ) {k : ℕ} → k ≡ opcode w → major_of (get_or major_table k 0) ≡ get_or majors (opcode w) (own reserved)
-major_at w e = at major_of major_table majors (own reserved) major_rule e (fits w 26 6)
-
-abbrev pub special_table : List ℕ
-special_table =
-    0x70 ∷ 0x0f ∷ 0x71 ∷ 0x72 ∷ 0x80 ∷ 0x0f ∷ 0x81 ∷ 0x82
-    ∷ 0xd0 ∷ 0xd1 ∷ 0x0f ∷ 0x0f ∷ 0x04 ∷ 0x05 ∷ 0x0f ∷ 0x06
-    ∷ 0xa0 ∷ 0xa1 ∷ 0xa2 ∷ 0xa3 ∷ 0x83 ∷ 0x0f ∷ 0x84 ∷ 0x85
-    ∷ 0x90 ∷ 0x91 ∷ 0x92 ∷ 0x93 ∷ 0x94 ∷ 0x95 ∷ 0x96 ∷ 0x97
-    ∷ 0x30 ∷ 0x31 ∷ 0x32 ∷ 0x33 ∷ 0x50 ∷ 0x51 ∷ 0x52 ∷ 0x53
-    ∷ 0x0f ∷ 0x0f ∷ 0x38 ∷ 0x39 ∷ 0x34 ∷ 0x35 ∷ 0x36 ∷ 0x37
-    ∷ 0xe0 ∷ 0xe1 ∷ 0xe2 ∷ 0xe3 ∷ 0xe4 ∷ 0x0f ∷ 0xe5 ∷ 0x0f
-    ∷ 0x73 ∷ 0x0f ∷ 0x74 ∷ 0x75 ∷ 0x76 ∷ 0x0f ∷ 0x77 ∷ 0x78
-    ∷ []
-
-special_rule : map entry_of special_table ≡ specials
-unfolding entry_of specials
-special_rule = refl
-
-pub special_at : (w : ℕ) {k : ℕ} → k ≡ funct w → entry_of (get_or special_table k 0) ≡ get_or specials (funct w) reserved
-special_at w e = at entry_of special_table specials reserved special_rule e (fits w 0 6)
-
-abbrev pub regimm_table : List ℕ
-regimm_table =
-    0xb4 ∷ 0xb5 ∷ 0xbc ∷ 0xbd ∷ 0x0f ∷ 0x0f ∷ 0x0f ∷ 0x0f
-    ∷ 0xf0 ∷ 0xf1 ∷ 0xf2 ∷ 0xf3 ∷ 0xf4 ∷ 0x0f ∷ 0xf5 ∷ 0x0f
-    ∷ 0xb6 ∷ 0xb7 ∷ 0xbe ∷ 0xbf ∷ 0x0f ∷ 0x0f ∷ 0x0f ∷ 0x0f
-    ∷ 0x0f ∷ 0x0f ∷ 0x0f ∷ 0x0f ∷ 0x0f ∷ 0x0f ∷ 0x0f ∷ 0x0f
-    ∷ []
-
-regimm_rule : map entry_of regimm_table ≡ regimms
-unfolding entry_of regimms
-regimm_rule = refl
-
-pub regimm_at : (w : ℕ) {k : ℕ} → k ≡ rt w → entry_of (get_or regimm_table k 0) ≡ get_or regimms (rt w) reserved
-regimm_at w e = at entry_of regimm_table regimms reserved regimm_rule e (fits w 16 5)
+pub regimm_at : (w : ℕ) (d : Entry) {k : ℕ} → k ≡ rt w → get_or regimms k d ≡ get_or regimms (rt w) Reserved
+unfolding regimms
+regimm_at w d p = ap (λ i. get_or regimms i d) p ∙ get_or_default regimms (rt w) d Reserved (fits w 16 5)

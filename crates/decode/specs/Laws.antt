@@ -3,9 +3,10 @@ use Rattle.std.specs.Prelude.{◌≡◌, refl, ℕ, ◌+◌, ◌*◌, ◌<◌, �
 use Rattle.std.proofs.Common.{mod-lt, pow_pos, arith}
 use Rattle.promise.specs.Bits.{bits}
 use Rattle.decode.specs.Fields.{opcode, rs, rt, rd, sa, funct, immediate, target}
-use Rattle.decode.specs.Maps.{Entry, majors, specials, regimms, mips3}
-use Rattle.decode.specs.Maps.Major.{SPECIAL, REGIMM, own}
-use Rattle.decode.specs.Maps.Entry.{reserved}
+use Rattle.decode.specs.declared.maps.Entry.{Entry}
+use Rattle.decode.specs.declared.maps.Entry.TheVariants.{Reserved}
+use Rattle.decode.specs.declared.maps.Major.TheVariants.{Special, Regimm, Own}
+use Rattle.decode.specs.Maps.{majors, specials, regimms, mips3}
 use Rattle.decode.specs.Decode.{entry_in, by_major}
 
 -- a field of some bits is below two to their number
@@ -36,14 +37,14 @@ unfolding regimms
 regimms_all = refl
 
 -- a word has one entry: of the SPECIAL map, of the REGIMM map, or of the major map itself
-pub special_word : (w : ℕ) → get_or majors (opcode w) (own reserved) ≡ SPECIAL → entry_in mips3 w ≡ get_or specials (funct w) reserved
+pub special_word : (w : ℕ) → get_or majors (opcode w) (Own Reserved) ≡ Special → entry_in mips3 w ≡ get_or specials (funct w) Reserved
 unfolding entry_in by_major
 special_word w h = rw h
 
-pub regimm_word : (w : ℕ) → get_or majors (opcode w) (own reserved) ≡ REGIMM → entry_in mips3 w ≡ get_or regimms (rt w) reserved
+pub regimm_word : (w : ℕ) → get_or majors (opcode w) (Own Reserved) ≡ Regimm → entry_in mips3 w ≡ get_or regimms (rt w) Reserved
 unfolding entry_in by_major
 regimm_word w h = rw h
 
-pub other_word : (w : ℕ) (e : Entry) → get_or majors (opcode w) (own reserved) ≡ own e → entry_in mips3 w ≡ e
+pub other_word : (w : ℕ) (e : Entry) → get_or majors (opcode w) (Own Reserved) ≡ Own e → entry_in mips3 w ≡ e
 unfolding entry_in by_major
 other_word w e h = rw h

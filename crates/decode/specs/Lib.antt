@@ -2,6 +2,5 @@
 pub mod Fields
 pub mod Maps
 pub mod Decode
-pub mod Numbers
 pub mod Laws
 pub mod Words

@@ -4,16 +4,13 @@
 ghost use Rattle.std.specs.Prelude.{◌≡◌};
 ghost use Rattle.decode.specs.Decode as D;
 ghost use Rattle.decode.specs.Maps.{mips3};
-ghost use Rattle.decode.specs.Numbers as N;
 
 pub mod fields; // the fields of a word
-mod maps; // the three maps as tables of numbers
-mod operations; // an operation by its number in its class
-mod classes; // the instruction of each class
+mod maps; // the three maps
 mod cop0; // COP0 words
-mod instructions; // an instruction by its entry's number
+mod instructions; // the instruction of an entry
 
-use maps::{MAJOR, REGIMM, SPECIAL};
+use maps::{Entry, MAJOR, Major, REGIMM, SPECIAL};
 
 #[derive(Clone, Copy)]
 pub enum LoadOp {
@@ -311,23 +308,21 @@ pub enum Undecoded {
     Reserved,
 }
 
-// The number of a word's entry: SPECIAL's by the function, REGIMM's by the rt field, any other its own.
-fn entry_number(w: u32) -> u8
-    ensures { N.entry_of result ≡ D.entry_in mips3 w }
+// The entry of a word: SPECIAL's by the function, REGIMM's by the rt field, any other its own.
+fn entry(w: u32) -> Entry
+    ensures { result ≡ D.entry_in mips3 w }
 {
-    let number = MAJOR[fields::opcode(w)];
-    if number == 0x0d {
-        return SPECIAL[fields::funct(w)];
+    match MAJOR[fields::opcode(w)] {
+        Major::Special => SPECIAL[fields::funct(w)],
+        Major::Regimm => REGIMM[fields::rt(w)],
+        Major::Own(entry) => entry,
     }
-    if number == 0x0e {
-        return REGIMM[fields::rt(w)];
-    }
-    number
 }
 
 // What a word is.
+#[tactic(auto, unfolding(crate::specs::Decode::decode_by))]
 pub fn decode(w: u32) -> Result<Instr, Undecoded>
     ensures { result ≡ D.decode w }
 {
-    instructions::instruction(entry_number(w), w)
+    instructions::instruction(entry(w), w)
 }

@@ -1,177 +1,211 @@
-// The maps of codes as tables of numbers, row by row as the manual draws them. A number is sixteen times the class, plus the
-// operation in its class. The classes: 0 what stands alone, 1 load, 2 store, 3 arithmetic, 4 arithmetic immediate, 5 logic,
-// 6 logic immediate, 7 shift, 8 shift variable, 9 multiply and divide, a HI and LO, b branch, c jump, d jump register, e trap,
-// f trap immediate. In class 0: 0 COP0, 1 a code of CP1, 2 of CP2, 3 CACHE, 4 SYSCALL, 5 BREAK, 6 SYNC, d SPECIAL, e REGIMM,
-// f reserved.
+// The maps of codes, row by row as the manual draws them.
+use super::{
+    ArithmeticImmediateOp, ArithmeticOp, BranchOp, HiLoOp, JumpOp, JumpRegisterOp, LoadOp,
+    LogicImmediateOp, LogicOp, MultiplyOp, ShiftOp, ShiftVariableOp, SpecialOp, StoreOp,
+    TrapImmediateOp, TrapOp,
+};
+
+// What a place of a map holds: nothing, COP0, a code of coprocessor 1 or 2, CACHE, or an instruction by its group and name.
+#[derive(Clone, Copy)]
+pub enum Entry {
+    Reserved,
+    Cop0,
+    Coprocessor(u8),
+    Cache,
+    Load(LoadOp),
+    Store(StoreOp),
+    Arithmetic(ArithmeticOp),
+    ArithmeticImmediate(ArithmeticImmediateOp),
+    Logic(LogicOp),
+    LogicImmediate(LogicImmediateOp),
+    Shift(ShiftOp),
+    ShiftVariable(ShiftVariableOp),
+    Multiply(MultiplyOp),
+    HiLo(HiLoOp),
+    Branch(BranchOp),
+    Jump(JumpOp),
+    JumpRegister(JumpRegisterOp),
+    Trap(TrapOp),
+    TrapImmediate(TrapImmediateOp),
+    Special(SpecialOp),
+}
+
+// What a major opcode leads to: a submap, or an entry of its own.
+#[derive(Clone, Copy)]
+pub enum Major {
+    Special,
+    Regimm,
+    Own(Entry),
+}
 
 // The 64 major opcodes.
-pub const MAJOR: [u8; 64] = [
-    0x0d, // SPECIAL
-    0x0e, // REGIMM
-    0xc0, // J
-    0xc1, // JAL
-    0xb0, // BEQ
-    0xb1, // BNE
-    0xb2, // BLEZ
-    0xb3, // BGTZ
-    0x40, // ADDI
-    0x41, // ADDIU
-    0x44, // SLTI
-    0x45, // SLTIU
-    0x60, // ANDI
-    0x61, // ORI
-    0x62, // XORI
-    0x63, // LUI
-    0x00, // COP0
-    0x01, // COP1
-    0x02, // COP2
-    0x0f, // reserved
-    0xb8, // BEQL
-    0xb9, // BNEL
-    0xba, // BLEZL
-    0xbb, // BGTZL
-    0x42, // DADDI
-    0x43, // DADDIU
-    0x19, // LDL
-    0x1a, // LDR
-    0x0f, // reserved
-    0x0f, // reserved
-    0x0f, // reserved
-    0x0f, // reserved
-    0x10, // LB
-    0x12, // LH
-    0x17, // LWL
-    0x14, // LW
-    0x11, // LBU
-    0x13, // LHU
-    0x18, // LWR
-    0x15, // LWU
-    0x20, // SB
-    0x21, // SH
-    0x24, // SWL
-    0x22, // SW
-    0x26, // SDL
-    0x27, // SDR
-    0x25, // SWR
-    0x03, // CACHE
-    0x1b, // LL
-    0x01, // LWC1
-    0x02, // LWC2
-    0x0f, // reserved
-    0x1c, // LLD
-    0x01, // LDC1
-    0x02, // LDC2
-    0x16, // LD
-    0x28, // SC
-    0x01, // SWC1
-    0x02, // SWC2
-    0x0f, // reserved
-    0x29, // SCD
-    0x01, // SDC1
-    0x02, // SDC2
-    0x23, // SD
+pub const MAJOR: [Major; 64] = [
+    Major::Special,
+    Major::Regimm,
+    Major::Own(Entry::Jump(JumpOp::J)),
+    Major::Own(Entry::Jump(JumpOp::JAL)),
+    Major::Own(Entry::Branch(BranchOp::BEQ)),
+    Major::Own(Entry::Branch(BranchOp::BNE)),
+    Major::Own(Entry::Branch(BranchOp::BLEZ)),
+    Major::Own(Entry::Branch(BranchOp::BGTZ)),
+    Major::Own(Entry::ArithmeticImmediate(ArithmeticImmediateOp::ADDI)),
+    Major::Own(Entry::ArithmeticImmediate(ArithmeticImmediateOp::ADDIU)),
+    Major::Own(Entry::ArithmeticImmediate(ArithmeticImmediateOp::SLTI)),
+    Major::Own(Entry::ArithmeticImmediate(ArithmeticImmediateOp::SLTIU)),
+    Major::Own(Entry::LogicImmediate(LogicImmediateOp::ANDI)),
+    Major::Own(Entry::LogicImmediate(LogicImmediateOp::ORI)),
+    Major::Own(Entry::LogicImmediate(LogicImmediateOp::XORI)),
+    Major::Own(Entry::LogicImmediate(LogicImmediateOp::LUI)),
+    Major::Own(Entry::Cop0),
+    Major::Own(Entry::Coprocessor(1)), // COP1
+    Major::Own(Entry::Coprocessor(2)), // COP2
+    Major::Own(Entry::Reserved),
+    Major::Own(Entry::Branch(BranchOp::BEQL)),
+    Major::Own(Entry::Branch(BranchOp::BNEL)),
+    Major::Own(Entry::Branch(BranchOp::BLEZL)),
+    Major::Own(Entry::Branch(BranchOp::BGTZL)),
+    Major::Own(Entry::ArithmeticImmediate(ArithmeticImmediateOp::DADDI)),
+    Major::Own(Entry::ArithmeticImmediate(ArithmeticImmediateOp::DADDIU)),
+    Major::Own(Entry::Load(LoadOp::LDL)),
+    Major::Own(Entry::Load(LoadOp::LDR)),
+    Major::Own(Entry::Reserved),
+    Major::Own(Entry::Reserved),
+    Major::Own(Entry::Reserved),
+    Major::Own(Entry::Reserved),
+    Major::Own(Entry::Load(LoadOp::LB)),
+    Major::Own(Entry::Load(LoadOp::LH)),
+    Major::Own(Entry::Load(LoadOp::LWL)),
+    Major::Own(Entry::Load(LoadOp::LW)),
+    Major::Own(Entry::Load(LoadOp::LBU)),
+    Major::Own(Entry::Load(LoadOp::LHU)),
+    Major::Own(Entry::Load(LoadOp::LWR)),
+    Major::Own(Entry::Load(LoadOp::LWU)),
+    Major::Own(Entry::Store(StoreOp::SB)),
+    Major::Own(Entry::Store(StoreOp::SH)),
+    Major::Own(Entry::Store(StoreOp::SWL)),
+    Major::Own(Entry::Store(StoreOp::SW)),
+    Major::Own(Entry::Store(StoreOp::SDL)),
+    Major::Own(Entry::Store(StoreOp::SDR)),
+    Major::Own(Entry::Store(StoreOp::SWR)),
+    Major::Own(Entry::Cache),
+    Major::Own(Entry::Load(LoadOp::LL)),
+    Major::Own(Entry::Coprocessor(1)), // LWC1
+    Major::Own(Entry::Coprocessor(2)), // LWC2
+    Major::Own(Entry::Reserved),
+    Major::Own(Entry::Load(LoadOp::LLD)),
+    Major::Own(Entry::Coprocessor(1)), // LDC1
+    Major::Own(Entry::Coprocessor(2)), // LDC2
+    Major::Own(Entry::Load(LoadOp::LD)),
+    Major::Own(Entry::Store(StoreOp::SC)),
+    Major::Own(Entry::Coprocessor(1)), // SWC1
+    Major::Own(Entry::Coprocessor(2)), // SWC2
+    Major::Own(Entry::Reserved),
+    Major::Own(Entry::Store(StoreOp::SCD)),
+    Major::Own(Entry::Coprocessor(1)), // SDC1
+    Major::Own(Entry::Coprocessor(2)), // SDC2
+    Major::Own(Entry::Store(StoreOp::SD)),
 ];
 
 // The 64 functions of SPECIAL.
-pub const SPECIAL: [u8; 64] = [
-    0x70, // SLL
-    0x0f, // reserved
-    0x71, // SRL
-    0x72, // SRA
-    0x80, // SLLV
-    0x0f, // reserved
-    0x81, // SRLV
-    0x82, // SRAV
-    0xd0, // JR
-    0xd1, // JALR
-    0x0f, // reserved
-    0x0f, // reserved
-    0x04, // SYSCALL
-    0x05, // BREAK
-    0x0f, // reserved
-    0x06, // SYNC
-    0xa0, // MFHI
-    0xa1, // MTHI
-    0xa2, // MFLO
-    0xa3, // MTLO
-    0x83, // DSLLV
-    0x0f, // reserved
-    0x84, // DSRLV
-    0x85, // DSRAV
-    0x90, // MULT
-    0x91, // MULTU
-    0x92, // DIV
-    0x93, // DIVU
-    0x94, // DMULT
-    0x95, // DMULTU
-    0x96, // DDIV
-    0x97, // DDIVU
-    0x30, // ADD
-    0x31, // ADDU
-    0x32, // SUB
-    0x33, // SUBU
-    0x50, // AND
-    0x51, // OR
-    0x52, // XOR
-    0x53, // NOR
-    0x0f, // reserved
-    0x0f, // reserved
-    0x38, // SLT
-    0x39, // SLTU
-    0x34, // DADD
-    0x35, // DADDU
-    0x36, // DSUB
-    0x37, // DSUBU
-    0xe0, // TGE
-    0xe1, // TGEU
-    0xe2, // TLT
-    0xe3, // TLTU
-    0xe4, // TEQ
-    0x0f, // reserved
-    0xe5, // TNE
-    0x0f, // reserved
-    0x73, // DSLL
-    0x0f, // reserved
-    0x74, // DSRL
-    0x75, // DSRA
-    0x76, // DSLL32
-    0x0f, // reserved
-    0x77, // DSRL32
-    0x78, // DSRA32
+pub const SPECIAL: [Entry; 64] = [
+    Entry::Shift(ShiftOp::SLL),
+    Entry::Reserved,
+    Entry::Shift(ShiftOp::SRL),
+    Entry::Shift(ShiftOp::SRA),
+    Entry::ShiftVariable(ShiftVariableOp::SLLV),
+    Entry::Reserved,
+    Entry::ShiftVariable(ShiftVariableOp::SRLV),
+    Entry::ShiftVariable(ShiftVariableOp::SRAV),
+    Entry::JumpRegister(JumpRegisterOp::JR),
+    Entry::JumpRegister(JumpRegisterOp::JALR),
+    Entry::Reserved,
+    Entry::Reserved,
+    Entry::Special(SpecialOp::SYSCALL),
+    Entry::Special(SpecialOp::BREAK),
+    Entry::Reserved,
+    Entry::Special(SpecialOp::SYNC),
+    Entry::HiLo(HiLoOp::MFHI),
+    Entry::HiLo(HiLoOp::MTHI),
+    Entry::HiLo(HiLoOp::MFLO),
+    Entry::HiLo(HiLoOp::MTLO),
+    Entry::ShiftVariable(ShiftVariableOp::DSLLV),
+    Entry::Reserved,
+    Entry::ShiftVariable(ShiftVariableOp::DSRLV),
+    Entry::ShiftVariable(ShiftVariableOp::DSRAV),
+    Entry::Multiply(MultiplyOp::MULT),
+    Entry::Multiply(MultiplyOp::MULTU),
+    Entry::Multiply(MultiplyOp::DIV),
+    Entry::Multiply(MultiplyOp::DIVU),
+    Entry::Multiply(MultiplyOp::DMULT),
+    Entry::Multiply(MultiplyOp::DMULTU),
+    Entry::Multiply(MultiplyOp::DDIV),
+    Entry::Multiply(MultiplyOp::DDIVU),
+    Entry::Arithmetic(ArithmeticOp::ADD),
+    Entry::Arithmetic(ArithmeticOp::ADDU),
+    Entry::Arithmetic(ArithmeticOp::SUB),
+    Entry::Arithmetic(ArithmeticOp::SUBU),
+    Entry::Logic(LogicOp::AND),
+    Entry::Logic(LogicOp::OR),
+    Entry::Logic(LogicOp::XOR),
+    Entry::Logic(LogicOp::NOR),
+    Entry::Reserved,
+    Entry::Reserved,
+    Entry::Arithmetic(ArithmeticOp::SLT),
+    Entry::Arithmetic(ArithmeticOp::SLTU),
+    Entry::Arithmetic(ArithmeticOp::DADD),
+    Entry::Arithmetic(ArithmeticOp::DADDU),
+    Entry::Arithmetic(ArithmeticOp::DSUB),
+    Entry::Arithmetic(ArithmeticOp::DSUBU),
+    Entry::Trap(TrapOp::TGE),
+    Entry::Trap(TrapOp::TGEU),
+    Entry::Trap(TrapOp::TLT),
+    Entry::Trap(TrapOp::TLTU),
+    Entry::Trap(TrapOp::TEQ),
+    Entry::Reserved,
+    Entry::Trap(TrapOp::TNE),
+    Entry::Reserved,
+    Entry::Shift(ShiftOp::DSLL),
+    Entry::Reserved,
+    Entry::Shift(ShiftOp::DSRL),
+    Entry::Shift(ShiftOp::DSRA),
+    Entry::Shift(ShiftOp::DSLL32),
+    Entry::Reserved,
+    Entry::Shift(ShiftOp::DSRL32),
+    Entry::Shift(ShiftOp::DSRA32),
 ];
 
 // The 32 codes of REGIMM.
-pub const REGIMM: [u8; 32] = [
-    0xb4, // BLTZ
-    0xb5, // BGEZ
-    0xbc, // BLTZL
-    0xbd, // BGEZL
-    0x0f, // reserved
-    0x0f, // reserved
-    0x0f, // reserved
-    0x0f, // reserved
-    0xf0, // TGEI
-    0xf1, // TGEIU
-    0xf2, // TLTI
-    0xf3, // TLTIU
-    0xf4, // TEQI
-    0x0f, // reserved
-    0xf5, // TNEI
-    0x0f, // reserved
-    0xb6, // BLTZAL
-    0xb7, // BGEZAL
-    0xbe, // BLTZALL
-    0xbf, // BGEZALL
-    0x0f, // reserved
-    0x0f, // reserved
-    0x0f, // reserved
-    0x0f, // reserved
-    0x0f, // reserved
-    0x0f, // reserved
-    0x0f, // reserved
-    0x0f, // reserved
-    0x0f, // reserved
-    0x0f, // reserved
-    0x0f, // reserved
-    0x0f, // reserved
+pub const REGIMM: [Entry; 32] = [
+    Entry::Branch(BranchOp::BLTZ),
+    Entry::Branch(BranchOp::BGEZ),
+    Entry::Branch(BranchOp::BLTZL),
+    Entry::Branch(BranchOp::BGEZL),
+    Entry::Reserved,
+    Entry::Reserved,
+    Entry::Reserved,
+    Entry::Reserved,
+    Entry::TrapImmediate(TrapImmediateOp::TGEI),
+    Entry::TrapImmediate(TrapImmediateOp::TGEIU),
+    Entry::TrapImmediate(TrapImmediateOp::TLTI),
+    Entry::TrapImmediate(TrapImmediateOp::TLTIU),
+    Entry::TrapImmediate(TrapImmediateOp::TEQI),
+    Entry::Reserved,
+    Entry::TrapImmediate(TrapImmediateOp::TNEI),
+    Entry::Reserved,
+    Entry::Branch(BranchOp::BLTZAL),
+    Entry::Branch(BranchOp::BGEZAL),
+    Entry::Branch(BranchOp::BLTZALL),
+    Entry::Branch(BranchOp::BGEZALL),
+    Entry::Reserved,
+    Entry::Reserved,
+    Entry::Reserved,
+    Entry::Reserved,
+    Entry::Reserved,
+    Entry::Reserved,
+    Entry::Reserved,
+    Entry::Reserved,
+    Entry::Reserved,
+    Entry::Reserved,
+    Entry::Reserved,
+    Entry::Reserved,
 ];

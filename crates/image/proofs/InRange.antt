@@ -67,7 +67,6 @@ module _ (regs : List ℕ) (number value : ℕ) (a : register_allowed number val
   zero_value false e p = let w : both (leb number PC) false ≡ true = simp (p, e) at a in let z : false ≡ true = (both_true (leb number PC) false w).1 in absurd (false_not_true z)
 
   r0_by : (t z : Bool) → ltb number HI ≡ t → eqb number 0 ≡ z → get_or (regs_set regs number value) 0 0 ≡ 0
-  unfolding regs_set
   r0_by false z p q = simp p h
   r0_by true false p q = simp p (get_or-set_other regs number 0 value 0 (λ e. eqb-false number 0 q (sym e)) ∙ h)
   r0_by true true p q = simp (eqb-true number 0 q, zero_value (eqb value 0) refl q) (zero_set regs)
@@ -77,7 +76,7 @@ module _ (regs : List ℕ) (number value : ℕ) (a : register_allowed number val
 
 module _ (cpu : Cpu) (number value : ℕ) (h : cpu_in_range cpu ≡ true) where
   cpu_by : (x y z : Bool) → eqb number HI ≡ x → eqb number LO ≡ y → eqb number PC ≡ z → cpu_in_range (cpu_set cpu number value) ≡ true
-  unfolding cpu_set cpu_in_range
+  unfolding cpu_in_range
   cpu_by true y z p q r = simp p h
   cpu_by false true z p q r = simp (p, q) h
   cpu_by false false true p q r = simp (p, q, r) h
@@ -97,7 +96,7 @@ is_built (Err e) h = absurd (false_not_true h)
 
 -- a frame that is allowed keeps a machine sound
 act_sound : (f : Frame) (s : Loaded) → allowed f ≡ true → Sound s.machine → Sound (act s f).machine
-unfolding act legal_write moved
+unfolding act legal_write
 act_sound (Register number value) s a h =
     record {
       r0 = r0_set s.machine.regs number value a h.r0;

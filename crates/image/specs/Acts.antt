@@ -1,10 +1,9 @@
 -- What frames do to the machine, to RAM and to the budget, one part at a time.
-use Rattle.std.specs.Prelude.{ℕ, List, Option, Some, None, ◌≡◌, eqb, ltb, set}
+use Rattle.std.specs.Prelude.{ℕ, List, Option, Some, None, eqb, ltb, set}
 use Rattle.promise.specs.Pick.{pick}
 use Rattle.memory.specs.Stores.{sd, put_bytes}
 use Rattle.tlb.specs.declared.Slot as tlb
 use Rattle.tlb.specs.Slot.{slot, write, put_slot}
-use Rattle.cp0.specs.declared.Cp0 as cp0
 use Rattle.cp0.specs.Registers.{kept_entry_hi, kept_entry_lo}
 use Rattle.cp0.specs.Moves.{move_in}
 use Rattle.effect.specs.declared.Cpu.{Cpu}
@@ -15,14 +14,13 @@ use Rattle.frame.specs.Line.{Lines, done, unended, line}
 use Rattle.frame.specs.Frame.{HI, LO, PC, frame_of}
 use Rattle.frame.specs.declared.Frame.{Frame}
 use Rattle.frame.specs.declared.Frame.TheVariants.{Register, Memory, Budget, Cp0, Slot}
-use Rattle.image.specs.declared.Acted.{Acted}
 
 -- 00 to 1f set a register (I4)
-unfoldable pub regs_set : List ℕ → ℕ → ℕ → List ℕ
+abbrev pub regs_set : List ℕ → ℕ → ℕ → List ℕ
 regs_set regs number value = pick (ltb number HI) (set regs number value) regs
 
 -- 20, 21 and 22 set HI, LO and PC (I4)
-unfoldable pub cpu_set : Cpu → ℕ → ℕ → Cpu
+abbrev pub cpu_set : Cpu → ℕ → ℕ → Cpu
 cpu_set cpu number value =
     pick (eqb number HI) (cpu_of cpu.pc cpu.slot cpu.target value cpu.lo cpu.link)
     (pick (eqb number LO) (cpu_of cpu.pc cpu.slot cpu.target cpu.hi value cpu.link)
@@ -30,7 +28,7 @@ cpu_set cpu number value =
     cpu))
 
 -- values as moves to PageMask, EntryHi, EntryLo0 and EntryLo1 leave them (I8, T14)
-unfoldable pub moved : ℕ → ℕ → ℕ → ℕ → tlb.Slot
+abbrev pub moved : ℕ → ℕ → ℕ → ℕ → tlb.Slot
 moved mask hi lo0 lo1 = slot mask (kept_entry_hi hi) (kept_entry_lo lo0) (kept_entry_lo lo1)
 
 -- what frames act on
@@ -61,16 +59,6 @@ act s (Slot index mask hi lo0 lo1) =
     (machine s.machine.cpu s.machine.cp0 s.machine.regs (put_slot s.machine.tlb (Some (write index (moved mask hi lo0 lo1)))))
     s.ram
     s.budget
-
--- what the code hands back of it
-abbrev pub acted : Cpu → cp0.Cp0 → ℕ → Acted
-acted cpu c budget = record { cpu = cpu; cp0 = c; budget = budget }
-
--- the code did it: what it returned and left behind is what the frame leaves
-pub record Did (o : Loaded) (r : Acted) (regs tlb ram : List ℕ) : Type 0 where
-  pub machine : machine r.cpu r.cp0 regs tlb ≡ o.machine
-  pub memory : ram ≡ o.ram
-  pub budget : r.budget ≡ o.budget
 
 -- what a line does: its frame acts, where it is one
 abbrev pub line_act : Loaded → Option Frame → Loaded

@@ -1,10 +1,11 @@
 // Which texts are refused, by which number and at which line.
-ghost use Rattle.std.specs.Prelude.{◌≡◌, false, ◌≤◌, length};
+ghost use Rattle.std.specs.Prelude.{◌≡◌, false};
 ghost use Rattle.frame.specs.Line.{lines_of};
 ghost use Rattle.image.specs.Refusals as R;
 
 use crate::Refusal;
 use crate::allowed::allowed;
+use crate::lines::first_line;
 use frame::Frame;
 
 // The bytes of RAM that an image needs, and the most that its text may have.
@@ -31,24 +32,21 @@ fn refusal_of(after: bool, f: Option<Frame>) -> Option<u8>
 
 // The first line that is refused.
 fn first_of(text: &[u8]) -> Option<Refusal>
-    requires { length text.now ≤ 65536 }
     ensures { result ≡ R.first_of (lines_of text.now) 1 false }
 {
-    let mut at: usize = 0;
+    let mut rest = text;
     let mut n: u64 = 1;
     let mut after = false;
-    while at < text.len() {
-        let line = frame::next_line(&text[at..]);
-        let end = at + line.len();
-        if text.len() <= end {
+    while let Some(line) = first_line(rest) {
+        let Some(next) = line.after else {
             return Some(Refusal { number: 6, line: n });
-        }
-        let f = frame::frame_of(line);
+        };
+        let f = frame::frame_of(line.chars);
         if let Some(number) = refusal_of(after, f) {
             return Some(Refusal { number, line: n });
         }
         after = is_budget(f);
-        at = end + 1;
+        rest = next;
         n += 1;
     }
     if after {
@@ -59,6 +57,7 @@ fn first_of(text: &[u8]) -> Option<Refusal>
 }
 
 // The refusal of a text and lent RAM.
+#[tactic(auto, unfolding(crate::specs::Refusals::image_refusal))]
 pub fn image_refusal(text: &[u8], ram: &[u8]) -> Option<Refusal>
     ensures { result ≡ R.image_refusal text.now ram.now }
 {

@@ -1,31 +1,19 @@
-use mathlib.Core.Path.{refl, sym, ap, ◌∙◌}
-use native.Mathlib.Omega.{arith}
-use borrow.Author.Rules.{rules}
+use Rattle.std.proofs.Common.{refl, sym, ap, ◌∙◌}
 use Rattle.image.specs.Acts.{acts}
-use Rattle.image.proofs.Turns.{acts_next, did_is, all_acted}
+use Rattle.image.proofs.Turns.{shorter, acts_next, all_acted}
 use Rattle.image.proofs.load.Goals as goal
-use Rattle.image.proofs.load.Goals.{in-Some, in_default}
+use Rattle.image.proofs.load.Goals.{in-Some-frame_of, in_default-frame_of}
 
-pub loop-at-init : goal.loop-at-init
-loop-at-init c = (omega arith, (refl, refl))
+pub loop-line-smaller : goal.loop-line-smaller
+loop-line-smaller c = shorter _ _ _ _ _ c.in-Some.ensures c.unwrap_or-rest.ensures refl
 
-pub loop-at-preserved : goal.loop-at-preserved
-loop-at-preserved c =
-    let h = c.loop-at.invariant in (
-      h.0,
-      (
-        search rules,
-        elim c.match-frame_of.branch [
-          | in-Some w ↦ rw (w.cpu-is, w.cp0-is, w.regs-is, w.tlb-is, w.ram-is, w.budget-is) (h.1.1 ∙ acts_next _ _ _ c.next_line-line.ensures.0 c.loop-at-test.true _ w.in-Some.ensures _ ∙ ap (acts _) (sym (did_is w.act-s.ensures)))
-          | in_default w ↦ rw (w.cpu-is, w.cp0-is, w.regs-is, w.tlb-is, w.ram-is, w.budget-is) (h.1.1 ∙ acts_next _ _ _ c.next_line-line.ensures.0 c.loop-at-test.true _ w.in_default.ensures _)
-        ],
-      ),
-    )
+pub loop-line-preserved : goal.loop-line-preserved
+loop-line-preserved c =
+    elim c.match-frame_of.branch [
+      | in-Some-frame_of w ↦ rw (w.machine-is, w.ram-is, w.budget-is) (c.loop-line.invariant ∙ acts_next _ _ _ _ _ c.in-Some.ensures c.unwrap_or-rest.ensures refl _ w.in-Some-frame_of.ensures _ ∙ ap (acts _) (sym w.act.ensures))
+      | in_default-frame_of w ↦ rw (w.machine-is, w.ram-is, w.budget-is) (c.loop-line.invariant ∙ acts_next _ _ _ _ _ c.in-Some.ensures c.unwrap_or-rest.ensures refl _ w.in_default-frame_of.ensures _)
+    ]
 
 pub returns : goal.returns
 returns c =
-    all_acted _ _ _ _ _ _
-    c.fresh-m.ensures
-    c.clear.ensures
-    c.loop-at.invariant.1.1
-    c.loop-at-test.false
+    all_acted _ _ _ _ _ c.fresh-machine.ensures (c.fill.ensures.after (λ y e. e)) c.loop-line.invariant c.in_default.ensures

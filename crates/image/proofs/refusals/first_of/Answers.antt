@@ -1,38 +1,30 @@
-use mathlib.Core.Path.{refl, sym, ◌∙◌}
-use native.Mathlib.Omega.{arith}
-use Rattle.image.proofs.Turns.{first_unended, first_refused, first_next, first_done}
+use Rattle.std.proofs.Common.{arith, sym, ◌∙◌}
+use Rattle.image.specs.Lines.{Begins}
+use Rattle.image.proofs.Turns.{first_done, first_unended, first_refused, first_next}
 use Rattle.image.proofs.refusals.first_of.Goals as goal
 
-pub loop-at-init : goal.loop-at-init
-loop-at-init c = (omega arith, (omega arith, (omega arith, refl)))
+pub returns-in_default-after : goal.returns-in_default-after
+returns-in_default-after c =
+    let b = rw c.in_default-after.is at c.in-Some.ensures in
+    sym (c.loop-line.invariant.is ∙ first_unended _ _ b.0)
 
-pub returns-then-text-end : goal.returns-then-text-end
-returns-then-text-end c =
-    sym
-    (c.loop-at.invariant.1.1.1
-    ∙ first_unended _ _ _ c.next_line-line.ensures.0 c.loop-at-test.true _ _ c.if-text-end.true)
+pub returns-in-Some-refusal_of : goal.returns-in-Some-refusal_of
+returns-in-Some-refusal_of c =
+    let b = rw c.in-Some-after.is at c.in-Some.ensures in
+    sym (c.loop-line.invariant.is ∙ first_refused _ _ b.0 c.frame_of-f.ensures c.in-Some-refusal_of.ensures)
 
-pub returns-in-Some : goal.returns-in-Some
-returns-in-Some c =
-    sym
-    (c.loop-at.invariant.1.1.1
-    ∙ first_refused _ _ _ c.next_line-line.ensures.0 c.loop-at-test.true _ _ c.if-text-end.false _ c.frame_of-f.ensures _ c.in-Some.ensures)
-
-pub loop-at-preserved : goal.loop-at-preserved
-loop-at-preserved c = (
-  omega arith,
-  (
-    omega arith,
-    (
-      c.loop-at.invariant.1.1.0,
-      c.loop-at.invariant.1.1.1
-          ∙ first_next _ _ _ c.next_line-line.ensures.0 c.loop-at-test.true _ _ c.if-text-end.false _ c.frame_of-f.ensures c.in_default.ensures _ c.is_budget-after.ensures,
-    ),
-  ),
-)
+pub loop-line-preserved : goal.loop-line-preserved
+loop-line-preserved c =
+    let b = rw c.in-Some-after.is at c.in-Some.ensures in
+    record {
+      counted = omega (arith, b.1, c.loop-line.invariant.counted);
+      is =
+          c.loop-line.invariant.is
+          ∙ first_next _ _ b.0 c.frame_of-f.ensures c.in_default-refusal_of.ensures c.is_budget-after.ensures;
+    }
 
 pub returns-then-after : goal.returns-then-after
-returns-then-after c = sym (c.loop-at.invariant.1.1.1 ∙ first_done _ _ _ _ c.loop-at-test.false ∙ simp c.if-after.true)
+returns-then-after c = sym (c.loop-line.invariant.is ∙ first_done _ _ c.in_default.ensures ∙ simp c.if-after.true)
 
 pub returns-else-after : goal.returns-else-after
-returns-else-after c = sym (c.loop-at.invariant.1.1.1 ∙ first_done _ _ _ _ c.loop-at-test.false ∙ simp c.if-after.false)
+returns-else-after c = sym (c.loop-line.invariant.is ∙ first_done _ _ c.in_default.ensures ∙ simp c.if-after.false)

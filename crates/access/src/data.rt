@@ -4,7 +4,7 @@ ghost use Rattle.memory.specs.Memory.{read};
 ghost use Rattle.access.specs.Access as Rule;
 
 use crate::build::{counted, raised, stopped};
-use crate::{Effect, Stop, Turn};
+use crate::{Effect, Memory, Stop, Turn};
 use cp0::Exception;
 use decode::{LoadOp, StoreOp};
 use memory::{Eight, PAddr, Store};
@@ -50,19 +50,11 @@ pub fn got(op: LoadOp, reg: usize, old: u64, p: PAddr, x: Option<Eight>) -> Effe
 
 // A load, once its address is translated.
 #[tactic(auto, unfolding(crate::specs::Access::loaded))]
-pub fn loaded(
-    op: LoadOp,
-    reg: usize,
-    old: u64,
-    v: VAddr,
-    ram: &[u8],
-    rom: &[u8],
-    x: Where,
-) -> Effect
-    ensures { result ≡ Rule.loaded op reg old v (read ram.now rom.now) x }
+pub fn loaded(op: LoadOp, reg: usize, old: u64, v: VAddr, m: &Memory, x: Where) -> Effect
+    ensures { result ≡ Rule.loaded op reg old v (read m.now.ram.now m.now.rom.now) x }
 {
     match x {
-        Where::Mapped(p, _) | Where::Unmapped(p) => got(op, reg, old, p, memory::read(ram, rom, p)),
+        Where::Mapped(p, _) | Where::Unmapped(p) => got(op, reg, old, p, m.read(p)),
         Where::Invalid(_) => raised(Exception::TLBL {
             bad: v,
             refill: false,
@@ -119,22 +111,14 @@ pub fn saved(
     link: bool,
     value: u64,
     v: VAddr,
-    ram: &[u8],
-    rom: &[u8],
+    m: &Memory,
     x: Where,
 ) -> Effect
-    ensures { result ≡ Rule.saved op reg link value v (read ram.now rom.now) x }
+    ensures { result ≡ Rule.saved op reg link value v (read m.now.ram.now m.now.rom.now) x }
 {
     match x {
         Where::Mapped(_, h) if !h.dirty => raised(Exception::Mod(v)),
-        Where::Mapped(p, _) | Where::Unmapped(p) => sent(
-            op,
-            reg,
-            link,
-            value,
-            p,
-            memory::read(ram, rom, p),
-        ),
+        Where::Mapped(p, _) | Where::Unmapped(p) => sent(op, reg, link, value, p, m.read(p)),
         Where::Invalid(_) => raised(Exception::TLBS {
             bad: v,
             refill: false,

@@ -4,7 +4,7 @@ ghost use Rattle.memory.specs.Loads.{lwu};
 ghost use Rattle.memory.specs.Memory.{read};
 ghost use Rattle.access.specs.Fetch as Rule;
 
-use crate::Unfetched;
+use crate::{Memory, Unfetched};
 use cp0::Exception;
 use memory::{Eight, PAddr};
 use tlb::{VAddr, Where};
@@ -30,11 +30,11 @@ fn word_found(p: PAddr, x: Option<Eight>) -> Result<u32, Unfetched>
 
 // The word at PC, once PC is translated, or what comes of it instead.
 #[tactic(auto, unfolding(crate::specs::Fetch::word_at))]
-pub fn word_at(pc: VAddr, ram: &[u8], rom: &[u8], x: Where) -> Result<u32, Unfetched>
-    ensures { result ≡ Rule.word_at pc (read ram.now rom.now) x }
+pub fn word_at(pc: VAddr, m: &Memory, x: Where) -> Result<u32, Unfetched>
+    ensures { result ≡ Rule.word_at pc (read m.now.ram.now m.now.rom.now) x }
 {
     match x {
-        Where::Mapped(p, _) | Where::Unmapped(p) => word_found(p, memory::read(ram, rom, p)),
+        Where::Mapped(p, _) | Where::Unmapped(p) => word_found(p, m.read(p)),
         Where::Invalid(_) => Err(Unfetched::Raise(Exception::TLBL {
             bad: pc,
             refill: false,

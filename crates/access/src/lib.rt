@@ -6,10 +6,11 @@ pub mod data; // the data access
 pub mod fetch; // the fetch
 
 ghost use Rattle.std.specs.Prelude.{◌≡◌};
+ghost use Rattle.memory.specs.Memory.{read};
 ghost use Rattle.access.specs.Effect as Rule;
 
 use cp0::Exception;
-use memory::{PAddr, Store};
+use memory::{Eight, PAddr, Store};
 use tlb::{Slot, SlotWrite};
 
 // How Cpu and CP0 go on.
@@ -33,6 +34,22 @@ pub enum Turn {
 pub enum Unfetched {
     Raise(Exception),
     Double,
+}
+
+// Memory as a step sees it: RAM and ROM.
+#[derive(Clone, Copy)]
+pub struct Memory<'a> {
+    pub ram: &'a [u8],
+    pub rom: &'a [u8],
+}
+
+impl Memory<'_> {
+    // The eight aligned bytes that hold an address.
+    fn read(&self, p: PAddr) -> Option<Eight>
+        ensures { result ≡ read self.now.ram.now self.now.rom.now p }
+    {
+        memory::read(self.ram, self.rom, p)
+    }
 }
 
 // Why a run stops before a step.

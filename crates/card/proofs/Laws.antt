@@ -1,64 +1,25 @@
--- What the code of a step did is a step, and the turns of a run's loop.
-use Prim.Native.Nat.{ℕ, suc, ◌+◌, ◌-◌, ◌<◌, ◌≤◌}
-use mathlib.Core.Path.{◌≡◌, refl, sym, ◌∙◌, ap}
-use mathlib.Core.Bool.{Bool, true, false}
-use mathlib.Core.List.{List}
-use native.Mathlib.Omega.{arith}
-use lib.Dec.{eqb}
-use borrow.Author.Tests.{eq-eqb, eqb-true, ne_eqb}
-use Rattle.memory.specs.Memory.{read}
-use Rattle.memory.specs.Stores.{put_bytes}
-use Rattle.tlb.specs.Slot.{put_slot}
-use Rattle.cp0.specs.declared.Cp0.{Cp0}
-use Rattle.effect.specs.declared.Cpu.{Cpu}
-use Rattle.access.specs.declared.Effect.{Effect}
-use Rattle.effect.specs.Step.{effect_of}
-use Rattle.effect.specs.After.{cpu_after, cp0_after}
+-- The turns of a run's loop.
+use Rattle.std.proofs.Common.{ℕ, suc, ◌+◌, ◌-◌, ◌<◌, ◌≤◌, ◌≡◌, sym, ◌∙◌, ap, true, false, List, arith, eq-eqb, ne_eqb}
+use Rattle.std.proofs.Math.Dec.{eqb}
 use Rattle.card.specs.declared.Machine.{Machine}
 use Rattle.card.specs.declared.Cored.{Cored}
 use Rattle.card.specs.Machine.{machine}
-use Rattle.card.specs.Step.{Out, Did, apply, put_reg, step_of}
-use Rattle.card.specs.Run.{Whole, whole, plus, following, refusal, steps, run_of, stepped}
+use Rattle.card.specs.Step.{Did, step_of}
+use Rattle.card.specs.Run.{Whole, whole, plus, following, refusal, steps, run_of}
 
--- ---- a step
-
-abbrev cored : Cpu → Cp0 → ℕ → Cored
-cored c z n = record { cpu = c; cp0 = z; stop = n }
-
--- what `core` computed and wrote is the outcome
-module _ (cpu : Cpu) (cp0 : Cp0) (regs tlb ram rom : List ℕ) (lines : ℕ) (e : Effect) (E : e ≡ effect_of cpu cp0 regs tlb (read ram rom) lines) where
-  pub core_did :
-      (cpu' : Cpu) (cp0' : Cp0) (regs' tlb' ram' : List ℕ) → cpu' ≡ cpu_after cpu cp0 e.turn → cp0' ≡ cp0_after cpu.pc cpu.slot cp0 e.turn
-      → regs' ≡ put_reg regs e.reg e.value → tlb' ≡ put_slot tlb e.slot → ram' ≡ put_bytes ram e.store
-      → Did (step_of (machine cpu cp0 regs tlb) ram rom lines) (cored cpu' cp0' e.stop) regs' tlb' ram'
-  unfolding step_of apply
-  core_did cpu' cp0' regs' tlb' ram' p z a b c =
-      rw (← E, p, z, a, b, c) (record { machine = refl; stop = refl; memory = refl })
-
--- ---- refusals
-
-module _ (rom : List ℕ) (lines budget : ℕ) (m : Machine) (ram : List ℕ) (n : ℕ) (e : n ≡ refusal m ram rom lines) where
-  -- a refused run takes no step and changes nothing
-  pub refused : (n ≡ 0 → ⊥) → whole m ram 0 n ≡ run_of rom lines budget m ram
-  unfolding run_of
-  refused other = rw (← e, ne_eqb n 0 other)
-
-  -- any other is its steps
-  pub accepted : n ≡ 0 → steps rom lines budget m ram ≡ run_of rom lines budget m ram
-  unfolding run_of
-  accepted z = rw (← e, z)
-
--- ---- the loop
-
-pub plus_plus : (i k : ℕ) (w : Whole) → plus i (plus k w) ≡ plus (i + k) w
+plus_plus : (i k : ℕ) (w : Whole) → plus i (plus k w) ≡ plus (i + k) w
 plus_plus i k w = let e : i + (k + w.steps) ≡ i + k + w.steps = omega arith in ap (λ (n : ℕ). whole w.machine w.ram n w.stop) e
 
 plus_zero : (w : Whole) → plus 0 w ≡ w
 plus_zero w = let e : 0 + w.steps ≡ w.steps = omega arith in ap (λ (n : ℕ). whole w.machine w.ram n w.stop) e
 
--- it begins
-pub begins : (rom : List ℕ) (lines b : ℕ) (m : Machine) (s : List ℕ) → steps rom lines b m s ≡ plus 0 (steps rom lines (b - 0) m s)
-begins rom lines b m s = let e : b - 0 ≡ b = omega arith in rw e (sym (plus_zero (steps rom lines b m s)))
+-- it begins, where no refusal n applies
+pub begins : (rom : List ℕ) (lines b : ℕ) (m : Machine) (s : List ℕ) (n : ℕ) → n ≡ refusal m s rom lines → n ≡ 0 → run_of rom lines b m s ≡ plus 0 (steps rom lines (b - 0) m s)
+unfolding run_of
+begins rom lines b m s n e z =
+    let q : b - 0 ≡ b = omega arith in
+    let r : refusal m s rom lines ≡ 0 = sym e ∙ z in
+    rw (r, q) (sym (plus_zero (steps rom lines b m s)))
 
 -- a turn: where W is the run from the start, what is known before a step gives what is known after it
 module _ (W : Whole) (rom : List ℕ) (lines b i : ℕ) (n : Machine) (s : List ℕ) (r : Cored) (regs tlb t : List ℕ) (h : i < b) (was : W ≡ plus i (steps rom lines (b - i) n s)) (did : Did (step_of n s rom lines) r regs tlb t) where
@@ -78,21 +39,6 @@ module _ (W : Whole) (rom : List ℕ) (lines b i : ℕ) (n : Machine) (s : List 
       rw (did.machine, did.memory, did.stop) (rw (q, e) at turned)
 
 -- the budget is spent
-pub spent : (W : Whole) (rom : List ℕ) (lines b i : ℕ) (n : Machine) (s : List ℕ) → i ≤ b → b ≤ i → W ≡ plus i (steps rom lines (b - i) n s) → W ≡ whole n s i 0
+pub spent : (W : Whole) (rom : List ℕ) (lines b i : ℕ) (n : Machine) (s : List ℕ) → i ≤ b → b ≤ i → W ≡ plus i (steps rom lines (b - i) n s) → W ≡ whole n s b 0
 unfolding steps
-spent W rom lines b i n s h k was = let e : b - i ≡ 0 = omega arith in let z : i + 0 ≡ i = omega arith in was ∙ rw (e, z)
-
--- a single step, counted or not
-pub one_step : (rom : List ℕ) (lines : ℕ) (m : Machine) (s : List ℕ) (r : Cored) (regs tlb t : List ℕ) → Did (step_of m s rom lines) r regs tlb t
-    → (record { machine = machine r.cpu r.cp0 regs tlb; stop = r.stop } ≡ stepped (steps rom lines 1 m s)) × (t ≡ (steps rom lines 1 m s).ram)
-unfolding steps
-one_step rom lines m s r regs tlb t d = rw (d.machine, d.stop, d.memory) (go (eqb (step_of m s rom lines).stop 0) refl)
-  where
-    o : Out
-    o = step_of m s rom lines
-
-    go : (b : Bool) → eqb (step_of m s rom lines).stop 0 ≡ b
-        → (record { machine = (step_of m s rom lines).machine; stop = (step_of m s rom lines).stop } ≡ stepped (following (step_of m s rom lines) (whole (step_of m s rom lines).machine (step_of m s rom lines).ram 0 0)))
-        × ((step_of m s rom lines).ram ≡ (following (step_of m s rom lines) (whole (step_of m s rom lines).machine (step_of m s rom lines).ram 0 0)).ram)
-    go true e = rw e (ap (λ (n : ℕ). record { machine = (step_of m s rom lines).machine; stop = n }) (eqb-true _ _ e), refl)
-    go false e = rw e (refl, refl)
+spent W rom lines b i n s h k was = let e : b - i ≡ 0 = omega arith in let z : i + 0 ≡ b = omega arith in was ∙ rw (e, z)

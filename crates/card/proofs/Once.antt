@@ -1,7 +1,5 @@
 -- No two different outcomes satisfy a contract of this crate.
-use Prim.Native.Nat.{ℕ}
-use mathlib.Core.Path.{◌≡◌, refl, ap}
-use mathlib.Core.List.{List}
+use Rattle.std.proofs.Common.{ℕ, List, ◌≡◌, refl, ap}
 use Rattle.promise.specs.Unique.{Unique, UniqueOf, both_say, same}
 use Rattle.card.specs.declared.Machine.{Machine}
 use Rattle.card.specs.declared.Cored.{Cored}

@@ -5,6 +5,7 @@ use Rattle.memory.specs.Memory.{read}
 use Rattle.memory.specs.Stores.{put_bytes}
 use Rattle.tlb.specs.Slot.{put_slot}
 use Rattle.access.specs.declared.Effect.{Effect}
+use Rattle.access.specs.Effect.{number_of}
 use Rattle.effect.specs.Step.{effect_of}
 use Rattle.effect.specs.After.{cpu_after, cp0_after}
 use Rattle.card.specs.declared.Machine.{Machine}
@@ -31,7 +32,7 @@ apply m ram e =
     out
     (machine (cpu_after m.cpu m.cp0 e.turn) (cp0_after m.cpu.pc m.cpu.slot m.cp0 e.turn) (put_reg m.regs e.reg e.value) (put_slot m.tlb e.slot))
     (put_bytes ram e.store)
-    e.stop
+    (number_of e.stop)
 
 -- one step (S1)
 unfoldable pub step_of : Machine → List ℕ → List ℕ → ℕ → Out

@@ -11,16 +11,11 @@ use effect::Cpu;
 fn eights(least: usize, most: usize, n: usize) -> bool
     ensures { result ≡ Rule.eights least most n }
 {
-    if n % 8 == 0 {
-        if least <= n {
-            return n <= most;
-        }
-        return false;
-    }
-    false
+    n % 8 == 0 && least <= n && n <= most
 }
 
 // The first of the refusals 1 to 4 that applies, 0 for none.
+#[tactic(auto, unfolding(crate::specs::Run::refusal_by))]
 pub fn refusal(
     cpu: Cpu,
     cp0: Cp0,
@@ -32,17 +27,15 @@ pub fn refusal(
 ) -> u8
     ensures { result ≡ Rule.refusal_by (machine cpu cp0 regs.now tlb.now) ram rom lines }
 {
-    if eights(8, 16777216, ram) {
-        if eights(0, 4194304, rom) {
-            if lines <= 31 {
-                if in_range(cpu, cp0, regs, tlb) {
-                    return 0;
-                }
-                return 4;
-            }
-            return 3;
-        }
-        return 2;
+    if !eights(8, 16777216, ram) {
+        1
+    } else if !eights(0, 4194304, rom) {
+        2
+    } else if lines > 31 {
+        3
+    } else if !in_range(cpu, cp0, regs, tlb) {
+        4
+    } else {
+        0
     }
-    1
 }

@@ -6,27 +6,17 @@ use cp0::Cp0;
 use effect::Cpu;
 
 // No target without a slot.
+#[tactic(auto, unfolding(crate::specs::Machine::cpu_in_range))]
 fn cpu_in_range(cpu: Cpu) -> bool
     ensures { result ≡ Rule.cpu_in_range cpu }
 {
-    if cpu.slot {
-        return true;
-    }
-    cpu.target == 0
+    cpu.slot || cpu.target == 0
 }
 
 // Every field of a machine is in its range.
+#[tactic(auto, unfolding(crate::specs::Machine::in_range))]
 pub fn in_range(cpu: Cpu, cp0: Cp0, regs: &[u64; 32], tlb: &[u64; 192]) -> bool
     ensures { result ≡ Rule.in_range (Rule.machine cpu cp0 regs.now tlb.now) }
 {
-    if regs[0] != 0 {
-        return false;
-    }
-    if cpu_in_range(cpu) {
-        if cp0::cp0_in_range(cp0) {
-            return tlb::tlb_in_range(tlb);
-        }
-        return false;
-    }
-    false
+    regs[0] == 0 && cpu_in_range(cpu) && cp0::cp0_in_range(cp0) && tlb::tlb_in_range(tlb)
 }

@@ -9,16 +9,15 @@ use effect::Cpu;
 fn fresh_slots() -> [u64; 192]
     ensures { result ≡ Rule.fresh_slots 48 0 }
 {
-    let mut slots = [0u64; 192];
-    let mut i: usize = 0;
-    while i < 48 {
+    let mut slots = [0; 192];
+    for i in 0..48 {
         slots[i * 4 + 1] = 0x80000000 + (i as u64) * 0x2000;
-        i += 1;
     }
     slots
 }
 
 // The machine as it is switched on.
+#[tactic(auto, unfolding(crate::specs::Machine::fresh))]
 pub fn fresh() -> Machine
     ensures { result ≡ Rule.fresh }
 {
@@ -30,13 +29,10 @@ pub fn fresh() -> Machine
         lo: 0,
         link: false,
     };
-    let cp0 = cp0::fresh_cp0();
-    let regs = [0u64; 32];
-    let tlb = fresh_slots();
     Machine {
         cpu,
-        cp0,
-        regs,
-        tlb,
+        cp0: cp0::fresh_cp0(),
+        regs: [0; 32],
+        tlb: fresh_slots(),
     }
 }

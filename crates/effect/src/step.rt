@@ -4,49 +4,31 @@ ghost use Rattle.cp0.specs.Status.{CU0};
 ghost use Rattle.memory.specs.Memory.{read};
 ghost use Rattle.effect.specs.Step as Rule;
 
-use crate::Cpu;
+use crate::View;
 use crate::asked::{executed, leads};
 use access::build::{raised, stopped};
 use access::fetch::word_at;
-use access::{Effect, Fetched};
-use cp0::{Cp0, Exception};
+use access::{Effect, Stop, Unfetched};
+use cp0::Exception;
+use decode::Instr;
 use tlb::VAddr;
-use usability::Ready;
+use usability::Unready;
 
 // A word that may be executed, or what it raises or stops instead.
-fn readied<'a>(
-    cpu: Cpu,
-    cp0: Cp0,
-    regs: &[u64; 32],
-    tlb: &[u64; 192],
-    ram: &'a [u8],
-    rom: &'a [u8],
-    lines: u8,
-    w: u32,
-    x: Ready,
-) -> Effect
-    ensures { result ≡ Rule.readied cpu cp0 regs.now tlb.now (read ram.now rom.now) lines w x }
+#[tactic(auto, unfolding(crate::specs::Step::readied))]
+fn readied(v: &View, w: u32, x: Result<Instr, Unready>) -> Effect
+    ensures { let v = v.now in result ≡ Rule.readied v.cpu v.cp0 v.regs.now v.tlb.now (read v.memory.ram.now v.memory.rom.now) v.lines w x }
 {
     match x {
-        Ready::Go(i) => {
-            let s = decode::fields::rs(w);
-            let t = decode::fields::rt(w);
-            let a = regs[s];
-            let b = regs[t];
-            executed(
-                cpu,
-                cp0,
-                tlb,
-                ram,
-                rom,
-                lines,
-                b,
-                execute::execute(i, cpu.pc, a, b, cpu.hi, cpu.lo),
-            )
+        Ok(i) => {
+            let a = v.regs[decode::fields::rs(w)];
+            let b = v.regs[decode::fields::rt(w)];
+            let done = execute::execute(i, v.cpu.pc, a, b, v.cpu.hi, v.cpu.lo);
+            executed(v, b, done)
         }
-        Ready::Unusable(u) => raised(Exception::CpU(u)),
-        Ready::Reserved => raised(Exception::RI),
-        Ready::InSlot => stopped(17),
+        Err(Unready::Unusable(u)) => raised(Exception::CpU(u)),
+        Err(Unready::Reserved) => raised(Exception::RI),
+        Err(Unready::InSlot) => stopped(Stop::BranchInSlot),
     }
 }
 
@@ -54,67 +36,44 @@ fn readied<'a>(
 fn cu0(status: u32) -> bool
     ensures { result ≡ CU0 status }
 {
-    status / 268435456 % 2 == 1
+    status / 0x1000_0000 % 2 == 1
 }
 
 // A fetched word is decoded.
-fn decoded<'a>(
-    cpu: Cpu,
-    cp0: Cp0,
-    regs: &[u64; 32],
-    tlb: &[u64; 192],
-    ram: &'a [u8],
-    rom: &'a [u8],
-    lines: u8,
-    w: u32,
-) -> Effect
-    ensures { result ≡ Rule.decoded cpu cp0 regs.now tlb.now (read ram.now rom.now) lines w }
+#[tactic(auto, unfolding(crate::specs::Step::decoded))]
+fn decoded(v: &View, w: u32) -> Effect
+    ensures { let v = v.now in result ≡ Rule.decoded v.cpu v.cp0 v.regs.now v.tlb.now (read v.memory.ram.now v.memory.rom.now) v.lines w }
 {
     let x = usability::checks::ready(
-        cp0::user(cp0.status),
-        cu0(cp0.status),
-        cpu.slot,
+        cp0::user(v.cp0.status),
+        cu0(v.cp0.status),
+        v.cpu.slot,
         decode::decode(w),
     );
-    readied(cpu, cp0, regs, tlb, ram, rom, lines, w, x)
+    readied(v, w, x)
 }
 
 // The fetched word is decoded, or the step is what the fetch came to instead.
-fn begun<'a>(
-    cpu: Cpu,
-    cp0: Cp0,
-    regs: &[u64; 32],
-    tlb: &[u64; 192],
-    ram: &'a [u8],
-    rom: &'a [u8],
-    lines: u8,
-    x: Fetched,
-) -> Effect
-    ensures { result ≡ Rule.begun cpu cp0 regs.now tlb.now (read ram.now rom.now) lines x }
+#[tactic(auto, unfolding(crate::specs::Step::begun))]
+fn begun(v: &View, x: Result<u32, Unfetched>) -> Effect
+    ensures { let v = v.now in result ≡ Rule.begun v.cpu v.cp0 v.regs.now v.tlb.now (read v.memory.ram.now v.memory.rom.now) v.lines x }
 {
     match x {
-        Fetched::Word(w) => decoded(cpu, cp0, regs, tlb, ram, rom, lines, w),
-        Fetched::Raise(e) => raised(e),
-        Fetched::Double => stopped(16),
+        Ok(w) => decoded(v, w),
+        Err(Unfetched::Raise(e)) => raised(e),
+        Err(Unfetched::Double) => stopped(Stop::DoubleMatch),
     }
 }
 
 // What a step comes to: the interrupt, then the fetch.
-pub fn effect_of<'a>(
-    cpu: Cpu,
-    cp0: Cp0,
-    regs: &[u64; 32],
-    tlb: &[u64; 192],
-    ram: &'a [u8],
-    rom: &'a [u8],
-    lines: u8,
-) -> Effect
-    ensures { result ≡ Rule.effect_of cpu cp0 regs.now tlb.now (read ram.now rom.now) lines }
+#[tactic(auto, unfolding(crate::specs::Step::effect_of))]
+pub fn effect_of(v: &View) -> Effect
+    ensures { let v = v.now in result ≡ Rule.effect_of v.cpu v.cp0 v.regs.now v.tlb.now (read v.memory.ram.now v.memory.rom.now) v.lines }
 {
-    if cp0::interrupted(cp0.status, cp0.cause, lines) {
+    if cp0::interrupted(v.cp0.status, v.cp0.cause, v.lines) {
         return raised(Exception::Int);
     }
-    let pc = VAddr(cpu.pc);
-    let x = word_at(pc, ram, rom, leads(cp0, tlb, 4, pc));
-    begun(cpu, cp0, regs, tlb, ram, rom, lines, x)
+    let pc = VAddr(v.cpu.pc);
+    let x = word_at(pc, &v.memory, leads(v.cp0, v.tlb, 4, pc));
+    begun(v, x)
 }

@@ -1,8 +1,6 @@
 -- No two different outcomes satisfy a contract of this crate.
 use mathlib.Core.Path.{refl}
 use Rattle.promise.specs.Unique.{Unique, same}
-use Rattle.tlb.proofs.page_mask.trailing_ones.Kinds as trailing-ones-kinds
-use Rattle.tlb.proofs.page_mask.trailing_ones.Reads as trailing-ones-reads
 use Rattle.tlb.proofs.page_mask.legal_mask.Kinds as legal-mask-kinds
 use Rattle.tlb.proofs.page_mask.legal_mask.Reads as legal-mask-reads
 use Rattle.tlb.proofs.page_mask.page_bits.Kinds as page-bits-kinds
@@ -27,9 +25,6 @@ use Rattle.tlb.proofs.range.slot_in_range.Kinds as slot-in-range-kinds
 use Rattle.tlb.proofs.range.slot_in_range.Reads as slot-in-range-reads
 use Rattle.tlb.proofs.range.tlb_in_range.Kinds as tlb-in-range-kinds
 use Rattle.tlb.proofs.range.tlb_in_range.Reads as tlb-in-range-reads
-
-pub trailing_ones_once : Unique trailing-ones-kinds.ps trailing-ones-kinds.r trailing-ones-reads.Pre trailing-ones-reads.Post
-trailing_ones_once κs a p z₁ z₂ ws₁ ws₂ h₁ h₂ = (same h₁ h₂, refl)
 
 pub legal_mask_once : Unique legal-mask-kinds.ps legal-mask-kinds.r legal-mask-reads.Pre legal-mask-reads.Post
 legal_mask_once κs a p z₁ z₂ ws₁ ws₂ h₁ h₂ = (same h₁ h₂, refl)

@@ -58,6 +58,9 @@ module _ (tlb : List ℕ) (asid : ℕ) (v : VAddr) where
   unfolding Tells
   one_only i e = rw e at lookup_tells
 
+  pub one_below : (i : ℕ) → lookup tlb asid v ≡ One i → i < 48
+  one_below i e = (one_only i e).below
+
   pub only_one : (i : ℕ) → Only (matches_at tlb asid v) 48 i → lookup tlb asid v ≡ One i
   unfolding Tells
   only_one i o = go (lookup tlb asid v) lookup_tells

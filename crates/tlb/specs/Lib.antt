@@ -2,7 +2,6 @@
 pub mod PageMask
 pub mod Slot
 pub mod Match
-pub mod Held
 pub mod Translate
 pub mod SamePage
 pub mod Segments

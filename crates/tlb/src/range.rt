@@ -3,55 +3,40 @@ ghost use Rattle.std.specs.Prelude.{◌≡◌};
 ghost use Rattle.tlb.specs.Range as R;
 
 use super::Slot;
-use super::page_mask::legal_mask;
-use super::slots::slot_at;
+use super::page_mask::{legal_mask, run};
+use super::slots::{page, slot};
 
 // Page number, G and ASID only, and the page number clear under the mask.
+#[tactic(auto, unfolding(crate::specs::Range::hi_in_range))]
 fn hi_in_range(mask: u64, hi: u64) -> bool
     ensures { result ≡ R.hi_in_range mask hi }
 {
-    if 0x1_0000_0000 <= hi {
-        return false;
-    }
-    if hi / 256 % 16 != 0 {
-        return false;
-    }
-    (hi / 8192 % 524288) & (mask / 8192 % 4096) == 0
+    hi < 0x1_0000_0000 && hi / 256 % 16 == 0 && page(hi) & run(mask) == 0
 }
 
 // Frame, C, D and V only.
+#[tactic(auto, unfolding(crate::specs::Range::lo_in_range))]
 fn lo_in_range(lo: u64) -> bool
     ensures { result ≡ R.lo_in_range lo }
 {
-    if 0x4000_0000 <= lo {
-        return false;
-    }
-    lo % 2 == 0
+    lo < 0x4000_0000 && lo % 2 == 0
 }
 
 // A slot is in range.
+#[tactic(auto, unfolding(crate::specs::Range::slot_in_range))]
 pub fn slot_in_range(s: Slot) -> bool
     ensures { result ≡ R.slot_in_range s }
 {
-    if legal_mask(s.mask) {
-        if hi_in_range(s.mask, s.hi) {
-            if lo_in_range(s.lo0) {
-                return lo_in_range(s.lo1);
-            }
-        }
-    }
-    false
+    legal_mask(s.mask) && hi_in_range(s.mask, s.hi) && lo_in_range(s.lo0) && lo_in_range(s.lo1)
 }
 
 // All 48 slots are in range.
+#[tactic(auto, using(crate::proofs::StaysInRange::in_range_each, crate::proofs::StaysInRange::each_in_range))]
 pub fn tlb_in_range(tlb: &[u64; 192]) -> bool
     ensures { result ≡ R.tlb_in_range tlb.now }
 {
-    let mut i: usize = 0;
-    while i < 48 {
-        if slot_in_range(slot_at(tlb, i)) {
-            i = i + 1;
-        } else {
+    for i in 0..48 {
+        if !slot_in_range(slot(tlb, i)) {
             return false;
         }
     }

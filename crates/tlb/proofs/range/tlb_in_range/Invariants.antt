@@ -1,11 +1,8 @@
--- The invariant: what is left to test gives the whole answer (`EachSlot`).
-use Prim.Native.Nat.{◌-◌, ◌≤◌}
-use mathlib.Core.Path.{◌≡◌}
-use Rattle.tlb.specs.Range.{slots_in_range, tlb_in_range}
+-- The invariant: each slot so far is in range.
+use Rattle.std.proofs.Common.{◌≡◌, ℕ, ◌<◌, true}
+use Rattle.tlb.specs.Slot.{slot_at}
+use Rattle.tlb.specs.Range.{slot_in_range}
 use Rattle.tlb.proofs.range.tlb_in_range.Given as goal
 
 abbrev pub invariant-loop-i : goal.invariant-loop-i
-invariant-loop-i l = (l.i ≤ 48) × (slots_in_range (48 - l.i) l.i l.tlb ≡ tlb_in_range l.tlb)
-
-abbrev pub decreases-loop-i : goal.decreases-loop-i
-decreases-loop-i l = 48 - l.i
+invariant-loop-i l = (k : ℕ) → k < l.i → slot_in_range (slot_at l.tlb k) ≡ true

@@ -10,13 +10,13 @@ pub overflow_shr-result : goal.overflow_shr-result
 overflow_shr-result c = omega (arith, run_le c.args.mask)
 
 pub overflow_mul-result : goal.overflow_mul-result
-overflow_mul-result c = record { fits = product_fits c.args.mask c.args.lo c.args.v _ _ c.trailing_ones-ones.ensures c.page_bits.ensures }
+overflow_mul-result c = record { fits = product_fits c.args.mask c.args.lo c.args.v _ _ c.run_ones-ones.ensures c.page_bits.ensures }
 
 pub overflow_sub-result : goal.overflow_sub-result
-overflow_sub-result c = bytes_some c.args.mask c.args.lo c.args.v _ _ c.trailing_ones-ones.ensures c.page_bits.ensures
+overflow_sub-result c = bytes_some c.args.mask c.args.lo c.args.v _ _ c.run_ones-ones.ensures c.page_bits.ensures
 
 pub overflow_add-result : goal.overflow_add-result
-overflow_add-result c = record { fits = sum_fits c.args.mask c.args.lo c.args.v _ _ c.trailing_ones-ones.ensures c.page_bits.ensures }
+overflow_add-result c = record { fits = sum_fits c.args.mask c.args.lo c.args.v _ _ c.run_ones-ones.ensures c.page_bits.ensures }
 
 pub returns : goal.returns
-returns c = physical_code c.args.mask c.args.lo c.args.v _ _ c.trailing_ones-ones.ensures c.page_bits.ensures
+returns c = physical_code c.args.mask c.args.lo c.args.v _ _ c.run_ones-ones.ensures c.page_bits.ensures

@@ -4,7 +4,6 @@ pub mod Tables
 pub mod Runs
 pub mod Merges
 pub mod Spans
-pub mod Right
 pub mod MemoryLaws
 pub mod StoreLaws
 pub mod LoadLaws

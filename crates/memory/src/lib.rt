@@ -1,7 +1,7 @@
 // Memory: RAM from physical 0, ROM from 1FC00000, both big-endian.
 #![tactic(auto)]
 
-ghost use Rattle.std.specs.Prelude.{◌≡◌, ◌+◌, ◌*◌, ◌<◌, ◌≤◌, ◌^◌, length};
+ghost use Rattle.std.specs.Prelude.{◌≡◌, ◌*◌, ◌%◌, ◌<◌, ◌≤◌, ◌^◌, length};
 ghost use Rattle.memory.specs.Bytes as B;
 ghost use Rattle.memory.specs.Memory as M;
 
@@ -39,42 +39,40 @@ pub struct BusError;
 // Where ROM starts.
 const ROM_BASE: u64 = 0x1FC0_0000;
 
-// A byte as a number of 64 bits.
-fn wide(x: u8) -> u64
-    ensures { (result ≡ x) × (result < 256) }
+// RAM has the eight aligned bytes that hold an address.
+fn in_ram(ram: &[u8], p: PAddr) -> bool
+    ensures { result ≡ M.in_ram ram.now p }
 {
-    x as u64
+    p.0 / 8 < (ram.len() / 8) as u64
 }
 
-// One byte more at the right; said with `|`, eight reads become one read and a swap of bytes.
-fn join(a: u64, b: u64) -> u64
-    requires { (a < 2 ^ 56) × (b < 256) }
-    ensures { result ≡ a * 256 + b }
-{
-    a * 256 | b
-}
-
-// The number that the first eight bytes are, the first on top.
+// The number that the first eight bytes are, the first on top; said with `|`, eight reads become one read and a swap of bytes.
 fn eight_of(l: &[u8]) -> u64
     requires { 8 ≤ length l.now }
-    ensures { result ≡ B.eight_sum l.now }
+    ensures { result ≡ B.eight_of l.now }
 {
-    let top = wide(l[0]) * 0x1_0000_0000_0000
-        + wide(l[1]) * 0x100_0000_0000
-        + wide(l[2]) * 0x1_0000_0000
-        + wide(l[3]) * 0x100_0000
-        + wide(l[4]) * 0x1_0000
-        + wide(l[5]) * 0x100
-        + wide(l[6]);
-    join(top, wide(l[7]))
+    let mut n = 0;
+    for x in &l[..8] {
+        n = n << 8 | u64::from(*x);
+    }
+    n
 }
 
 // Byte k of a number, from the right.
-fn byte(x: u64, k: u64) -> u8
+fn byte(x: u64, k: u8) -> u8
     requires { k < 8 }
     ensures { result ≡ B.byte x k }
 {
     ((x >> (8 * k)) % 256) as u8
+}
+
+// The low `n` bytes of a number: the others are shifted out. In two halves, since no shift may be by 64.
+fn kept_low(x: u64, n: u64) -> u64
+    requires { n ≤ 8 }
+    ensures { result ≡ x % 2 ^ (8 * n) }
+{
+    let half = 4 * (8 - n);
+    x << half << half >> half >> half
 }
 
 // The eight aligned bytes that hold an address, as a part of RAM or of ROM; an empty part elsewhere.
@@ -105,8 +103,9 @@ pub fn read<'a>(ram: &'a [u8], rom: &'a [u8], p: PAddr) -> Option<Eight>
         return None;
     }
     let n = eight_of(bytes);
-    if p.0 / 8 < (ram.len() / 8) as u64 {
-        return Some(Eight::Ram(n));
+    if in_ram(ram, p) {
+        Some(Eight::Ram(n))
+    } else {
+        Some(Eight::Rom(n))
     }
-    Some(Eight::Rom(n))
 }

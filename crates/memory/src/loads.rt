@@ -1,28 +1,37 @@
 // Loads: what a register receives of the eight bytes that hold the address.
-ghost use Rattle.std.specs.Prelude.{◌≡◌};
+ghost use Rattle.std.specs.Prelude.{◌≡◌, ◌%◌, ◌<◌};
 ghost use Rattle.memory.specs.Loads as L;
 
-use crate::PAddr;
+use crate::{PAddr, kept_low};
+
+// The aligned `size` bytes that hold the address.
+pub(crate) fn field(size: u64, n: u64, p: PAddr) -> u64
+    requires { (0 < size) × (8 % size ≡ 0) }
+    ensures { result ≡ L.field size n p }
+{
+    let at = p.0 % 8 / size * size;
+    kept_low(n >> (8 * (8 - size - at)), size)
+}
 
 // LBU: the byte.
 pub fn lbu(n: u64, p: PAddr) -> u64
     ensures { result ≡ L.lbu n p }
 {
-    (n >> (8 * (7 - p.0 % 8))) % 0x100
+    field(1, n, p)
 }
 
 // LHU: the halfword.
 pub fn lhu(n: u64, p: PAddr) -> u64
     ensures { result ≡ L.lhu n p }
 {
-    (n >> (8 * (6 - p.0 % 8 / 2 * 2))) % 0x1_0000
+    field(2, n, p)
 }
 
 // LWU: the word.
 pub fn lwu(n: u64, p: PAddr) -> u64
     ensures { result ≡ L.lwu n p }
 {
-    (n >> (8 * (4 - p.0 % 8 / 4 * 4))) % 0x1_0000_0000
+    field(4, n, p)
 }
 
 // LD: the doubleword.

@@ -1,10 +1,10 @@
 // Stores: which bytes go where, and putting them into RAM.
-ghost use Rattle.std.specs.Prelude.{◌≡◌, ℕ, ◌+◌, ◌≤◌, length};
+ghost use Rattle.std.specs.Prelude.{◌≡◌, ℕ, ◌+◌, ◌<◌, ◌≤◌, length};
 ghost use Rattle.std.proofs.lemmas.List.Edits.{sets};
 ghost use Rattle.memory.specs.Bytes as B;
 ghost use Rattle.memory.specs.Stores as S;
 
-use crate::{BusError, PAddr, Store, byte};
+use crate::{BusError, PAddr, Store, byte, in_ram};
 
 // SB: the low byte.
 pub fn sb(p: PAddr, value: u64) -> Store
@@ -50,73 +50,73 @@ pub fn sd(p: PAddr, value: u64) -> Store
     }
 }
 
-// SWL: the top of the low word, from the address to the end of the aligned word.
+// Left: the top of the register's low `size` bytes, from the address to the end of the aligned `size`.
+fn left(size: u64, p: PAddr, value: u64) -> Store
+    requires { (0 < size) × (size ≤ 8) }
+    ensures { result ≡ S.store_left size p value }
+{
+    let b = p.0 % size;
+    Store {
+        to: p,
+        size: (size - b) as u8,
+        value: value >> (8 * b),
+    }
+}
+
+// Right: the bottom of the register, from the start of the aligned `size` to the address.
+fn right(size: u64, p: PAddr, value: u64) -> Store
+    requires { (0 < size) × (size ≤ 8) }
+    ensures { result ≡ S.store_right size p value }
+{
+    Store {
+        to: PAddr(p.0 / size * size),
+        size: (p.0 % size + 1) as u8,
+        value,
+    }
+}
+
+// SWL: left of a word.
 pub fn swl(p: PAddr, value: u64) -> Store
     ensures { result ≡ S.swl p value }
 {
-    let b = p.0 % 4;
-    Store {
-        to: p,
-        size: (4 - b) as u8,
-        value: value >> (8 * b),
-    }
+    left(4, p, value)
 }
 
-// SWR: the bottom of the register, from the start of the aligned word to the address.
+// SWR: right of a word.
 pub fn swr(p: PAddr, value: u64) -> Store
     ensures { result ≡ S.swr p value }
 {
-    let at = p.0;
-    Store {
-        to: PAddr(at / 4 * 4),
-        size: (at % 4 + 1) as u8,
-        value,
-    }
+    right(4, p, value)
 }
 
-// SDL: the top of the register, from the address to the end of the aligned doubleword.
+// SDL: left of a doubleword.
 pub fn sdl(p: PAddr, value: u64) -> Store
     ensures { result ≡ S.sdl p value }
 {
-    let b = p.0 % 8;
-    Store {
-        to: p,
-        size: (8 - b) as u8,
-        value: value >> (8 * b),
-    }
+    left(8, p, value)
 }
 
-// SDR: the bottom of the register, from the start of the aligned doubleword to the address.
+// SDR: right of a doubleword.
 pub fn sdr(p: PAddr, value: u64) -> Store
     ensures { result ≡ S.sdr p value }
 {
-    let at = p.0;
-    Store {
-        to: PAddr(at / 8 * 8),
-        size: (at % 8 + 1) as u8,
-        value,
-    }
+    right(8, p, value)
 }
 
 // Whether a store lands: RAM has its place, and its bytes stay within the eight aligned ones.
 fn lands(ram: &[u8], s: Store) -> bool
     ensures { result ≡ S.lands ram.now s }
 {
-    let at = s.to.0;
-    at / 8 < (ram.len() / 8) as u64 && 1 <= s.size && at % 8 + u64::from(s.size) <= 8
+    in_ram(ram, s.to) && 1 <= s.size && s.to.0 % 8 + u64::from(s.size) <= 8
 }
 
 // The low `size` bytes of the value into a list from `to` on, the top one first.
-fn put(ram: &mut [u8], to: usize, size: u64, value: u64)
+fn put(ram: &mut [u8], to: usize, size: u8, value: u64)
     requires { (size ≤ 8) × (to + size ≤ length ram.old) }
     ensures { ram.new ≡ sets ram.old to (B.bytes_of size value) }
 {
-    let mut n = size;
-    let mut at = to;
-    while 0 < n {
-        n -= 1;
-        ram[at] = byte(value, n);
-        at += 1;
+    for k in 0..size {
+        ram[to + k as usize] = byte(value, size - 1 - k);
     }
 }
 
@@ -130,6 +130,6 @@ pub fn put_bytes(ram: &mut [u8], s: Option<Store>) -> Result<(), BusError>
     if !lands(ram, s) {
         return Err(BusError);
     }
-    put(ram, s.to.0 as usize, u64::from(s.size), s.value);
+    put(ram, s.to.0 as usize, s.size, s.value);
     Ok(())
 }

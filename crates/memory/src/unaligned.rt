@@ -1,18 +1,10 @@
 // Unaligned loads: the merge, by shifting and keeping parts of the two numbers.
-ghost use Rattle.std.specs.Prelude.{◌≡◌, ℕ, ◌+◌, ◌*◌, ◌/◌, ◌%◌, ◌^◌, ◌≤◌};
+ghost use Rattle.std.specs.Prelude.{◌≡◌, ℕ, ◌+◌, ◌*◌, ◌/◌, ◌%◌, ◌^◌, ◌≤◌, ◌<◌};
 ghost use Rattle.memory.specs.Bytes as B;
 ghost use Rattle.memory.specs.Unaligned as U;
 
-use crate::{PAddr, lwu};
-
-// The low `n` bytes of a number: the others are shifted out. In two halves, since no shift may be by 64.
-fn kept_low(x: u64, n: u64) -> u64
-    requires { n ≤ 8 }
-    ensures { result ≡ x % 2 ^ (8 * n) }
-{
-    let half = 4 * (8 - n);
-    x << half << half >> half >> half
-}
+use crate::loads::field;
+use crate::{PAddr, kept_low};
 
 // A number with its `n` lowest bytes made zero.
 fn kept_high(x: u64, n: u64) -> u64
@@ -35,38 +27,53 @@ fn merge(old: u64, low: u64, count: u64, new: u64) -> u64
     above + between + below
 }
 
-// LDL: the bytes from the address to the end of the aligned doubleword, on top of the register.
+// Left: the bytes from the address to the end of the aligned `size`, on top of the register's low `size` bytes.
+fn left(size: u64, n: u64, p: PAddr, old: u64) -> u64
+    requires { (0 < size) × (8 % size ≡ 0) }
+    ensures { result ≡ U.left size n p old }
+{
+    let b = p.0 % size;
+    merge(old, b, size - b, field(size, n, p))
+}
+
+// Right: the bytes from the start of the aligned `size` to the address, at the bottom of the register.
+fn right(size: u64, n: u64, p: PAddr, old: u64) -> u64
+    requires { (0 < size) × (8 % size ≡ 0) }
+    ensures { result ≡ U.right size n p old }
+{
+    let b = p.0 % size;
+    merge(old, 0, b + 1, field(size, n, p) >> (8 * (size - 1 - b)))
+}
+
+// LDL: left of a doubleword.
 pub fn ldl(n: u64, p: PAddr, old: u64) -> u64
     ensures { result ≡ U.ldl n p old }
 {
-    let b = p.0 % 8;
-    merge(old, b, 8 - b, n)
+    left(8, n, p, old)
 }
 
-// LDR: the bytes from the start of the aligned doubleword to the address, at the bottom of the register.
+// LDR: right of a doubleword.
 pub fn ldr(n: u64, p: PAddr, old: u64) -> u64
     ensures { result ≡ U.ldr n p old }
 {
-    let b = p.0 % 8;
-    merge(old, 0, b + 1, n >> (8 * (7 - b)))
+    right(8, n, p, old)
 }
 
-// LWL: the same of the aligned word, on top of the register's low word; the sign is extended from bit 31.
+// LWL: left of a word; the sign is extended from bit 31.
 pub fn lwl(n: u64, p: PAddr, old: u64) -> u64
     ensures { result ≡ U.lwl n p old }
 {
-    let b = p.0 % 4;
-    word::extend(merge(old, b, 4 - b, lwu(n, p)))
+    word::extend(left(4, n, p, old))
 }
 
-// LWR: the same of the aligned word. Only a full one extends the sign; a partial one keeps the upper 32 bits.
+// LWR: right of a word. Only a full one extends the sign; a partial one keeps the upper 32 bits.
 pub fn lwr(n: u64, p: PAddr, old: u64) -> u64
     ensures { result ≡ U.lwr n p old }
 {
-    let b = p.0 % 4;
-    let merged = merge(old, 0, b + 1, lwu(n, p) >> (8 * (3 - b)));
-    if b == 3 {
-        return word::extend(merged);
+    let merged = right(4, n, p, old);
+    if p.0 % 4 == 3 {
+        word::extend(merged)
+    } else {
+        merged
     }
-    merged
 }

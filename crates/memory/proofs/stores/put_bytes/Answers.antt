@@ -13,4 +13,4 @@ returns-then-not-lands c = simp (c.in-Some.is, sym c.lands.ensures ∙ c.if-not-
 
 pub returns : goal.returns
 unfolding put_bytes put_answer
-returns c = simp (c.in-Some.is, sym c.lands.ensures ∙ c.if-not-lands.false) (refl, rw c.from.ensures at c.put.ensures)
+returns c = simp (c.in-Some.is, sym c.lands.ensures ∙ c.if-not-lands.false) (refl, c.put.ensures)

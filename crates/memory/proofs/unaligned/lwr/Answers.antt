@@ -1,10 +1,13 @@
 -- The merge of the aligned word, and the two cases of the definition.
-use mathlib.Core.Path.{◌∙◌}
-use Rattle.memory.proofs.Right.{lwr_full, lwr_partial}
+use Rattle.std.proofs.Common.{ap, ◌∙◌, eq-eqb, ne_eqb}
+use Rattle.word.specs.Word.{extend}
+use Rattle.memory.specs.Unaligned.{lwr}
 use Rattle.memory.proofs.unaligned.lwr.Goals as goal
 
-pub returns-then-b-eq3 : goal.returns-then-b-eq3
-returns-then-b-eq3 c = c.extend.ensures ∙ lwr_full _ _ _ _ _ c.lwu.ensures c.merge-merged.ensures c.if-b-eq3.true
+pub returns-then-p-eq3 : goal.returns-then-p-eq3
+unfolding lwr
+returns-then-p-eq3 c = rw (eq-eqb _ _ c.if-p-eq3.true) (c.extend.ensures ∙ ap extend c.right-merged.ensures)
 
-pub returns : goal.returns
-returns c = lwr_partial _ _ _ _ _ c.lwu.ensures c.merge-merged.ensures c.if-b-eq3.false
+pub returns-else-p-eq3 : goal.returns-else-p-eq3
+unfolding lwr
+returns-else-p-eq3 c = rw (ne_eqb _ _ c.if-p-eq3.false) c.right-merged.ensures

@@ -3,13 +3,12 @@ use Prim.Native.Nat.{ℕ, ◌<◌}
 use mathlib.Core.Path.{◌≡◌, refl, ap, ◌∙◌}
 use mathlib.Core.Bool.{true}
 use mathlib.Core.List.{List}
-use native.Mathlib.Decide.{ℕ_discrete}
 use native.Mathlib.Omega.{arith}
 use lib.Dec.{ltb}
 use Rattle.tlb.specs.declared.VAddr.{VAddr}
 use Rattle.tlb.specs.declared.Slot.{Slot}
 use Rattle.tlb.specs.declared.Mode.{Mode}
-use Rattle.tlb.specs.declared.Mode.TheVariants.{User, Kernel, Error}
+use Rattle.tlb.specs.declared.Mode.TheVariants.{User}
 use Rattle.tlb.specs.declared.Found.TheVariants.{Absent}
 use Rattle.tlb.specs.Slot.{slot_at, stored}
 use Rattle.tlb.specs.Match.{matches, matches_at, lookup, Only}
@@ -31,14 +30,10 @@ module _ (mode : Mode) (tlb : List ℕ) (i align : ℕ) (v : VAddr) (g : Granted
   -- no other slot matches after the write either
   alone : (j : ℕ) → j < 48 → matches_at (written tlb i) 1 v j ≡ true → j ≡ i
   unfolding matches_at
-  alone j h m = go (ℕ_discrete j i)
-    where
-      go : Dec (j ≡ i) → j ≡ i
-      go (yes e) = e
-      go (no n) =
-          let o = ap (λ (s : Slot). matches s 1 v) (put_other tlb i j moved n) in
-          let f = g.no_other j h n in
-          let z : ◌≡◌ {A = ℕ} 0 1 = cc in absurd (omega arith)
+  alone j h m =
+      let o = put_other tlb i j moved in
+      let f = g.no_other j h in
+      grind arith
 
   -- the address goes through the slot
   through_it : matches held 1 v ≡ true → mapped (written tlb i) 1 v ≡ through_slot held i v
@@ -49,12 +44,11 @@ module _ (mode : Mode) (tlb : List ℕ) (i align : ℕ) (v : VAddr) (g : Granted
 
   pub goes : matches held 1 v ≡ true → extended v ≡ true → ltb (word v) 0x80000000 ≡ true → translate mode 1 (written tlb i) align v ≡ through_slot held i v
   unfolding translate segment
-  goes m e l = low mode g.no_error ∙ through_it m
-    where
-      low : (any : Mode) → (any ≡ Error → ⊥) → translate any 1 (written tlb i) align v ≡ mapped (written tlb i) 1 v
-      low User n = rw (g.fits, e, l)
-      low Kernel n = rw (g.fits, e, l)
-      low Error n = absurd (n refl)
+  goes m e l =
+      let t = through_it m in
+      let f = g.fits in
+      let n = g.no_error in
+      grind arith
 
 -- no slot of the fresh machine matches, so it is granted of whichever is written
 module _ (v : VAddr) (a : aligned 1 v ≡ true) (none : lookup fresh.tlb 1 v ≡ Absent) (i : ℕ) (h : i < 48) where
@@ -65,6 +59,6 @@ module _ (v : VAddr) (a : aligned 1 v ≡ true) (none : lookup fresh.tlb 1 v ≡
         full = refl;
         there = h;
         fits = a;
-        no_error = λ e. let z : ◌≡◌ {A = ℕ} 0 1 = cc in absurd (omega arith);
+        no_error = λ e. cc;
         no_other = λ j l n. absent_none fresh.tlb 1 v none j l;
       }

@@ -1,5 +1,5 @@
 -- The twelve bench cards of document 01 as one table: one statement about the definitions of words, memory, TLB, CP0 and the step (B1).
-use Rattle.std.specs.Prelude.{ℕ, ◌%◌, ◌<◌, ◌≡◌, Bool, true, false, List, ◌∷◌, length, get_or}
+use Rattle.std.specs.Prelude.{ℕ, ◌%◌, ◌<◌, ◌≡◌, Bool, true, false, List, ◌∷◌, length, get_or, Option, Some}
 use Rattle.memory.specs.declared.PAddr.{PAddr}
 use Rattle.memory.specs.declared.Eight.{Eight}
 use Rattle.memory.specs.declared.Eight.TheVariants.{Ram}
@@ -10,10 +10,9 @@ use Rattle.tlb.specs.declared.VAddr.{VAddr}
 use Rattle.tlb.specs.declared.Mode.{Mode}
 use Rattle.tlb.specs.declared.Mode.TheVariants.{User, Error}
 use Rattle.tlb.specs.declared.Slot.{Slot}
-use Rattle.tlb.specs.declared.SlotWrite.TheVariants.{Put}
 use Rattle.tlb.specs.declared.Where.TheVariants.{Mapped, Invalid}
 use Rattle.tlb.specs.PageMask.{legal_mask}
-use Rattle.tlb.specs.Slot.{slot, put_slot}
+use Rattle.tlb.specs.Slot.{slot, write, put_slot}
 use Rattle.tlb.specs.Match.{matches_at}
 use Rattle.tlb.specs.Translate.{vaddr, paddr, half_of}
 use Rattle.tlb.specs.Segments.{aligned, translate}
@@ -50,7 +49,7 @@ moved = slot 0 0x00400001 0x00000086 0
 
 -- a TLB once slot i is written with them
 abbrev pub written : List ℕ → ℕ → List ℕ
-written tlb i = put_slot tlb (Put i moved)
+written tlb i = put_slot tlb (Some (write i moved))
 
 -- what card 10 takes for granted of an address v: it is aligned for the access, its segment is mapped (ERL is 0), and of the 48 slots none but i matches it
 pub record Granted (mode : Mode) (tlb : List ℕ) (i align : ℕ) (v : VAddr) : Type 0 where
@@ -67,7 +66,7 @@ pub record Cards : Type 0 where
   -- 2. ADD of these: Ov, rd kept, as is every register (B3)
   pub card_2 : (rd : ℕ) → arithmetic ADD 0x7fffffff 1 rd ≡ Raise Ov
   pub card_2_kept :
-      (cpu : Cpu) (cp : Cp0) (regs tlb : List ℕ) (look : PAddr → Eight) (value rd : ℕ)
+      (cpu : Cpu) (cp : Cp0) (regs tlb : List ℕ) (look : PAddr → Option Eight) (value rd : ℕ)
       → registers_after regs (asked cpu cp tlb look value (arithmetic ADD 0x7fffffff 1 rd)) ≡ regs
   -- 3. DMULTU of two ffffffffffffffff: HI fffffffffffffffe, LO 1 (B4)
   pub card_3 : multiply DMULTU 0xffffffffffffffff 0xffffffffffffffff ≡ HiLo 0xfffffffffffffffe 1
@@ -97,5 +96,5 @@ pub record Cards : Type 0 where
   pub card_11 : (c : Cp0) (pc : ℕ) (slot : Bool) → c.context ≡ 0 → (entered c pc slot (TLBL (vaddr 0x00400123) true)).context ≡ 0x00002000
   pub card_11_store : (c : Cp0) (pc : ℕ) (slot : Bool) → c.context ≡ 0 → (entered c pc slot (TLBS (vaddr 0x00400123) true)).context ≡ 0x00002000
   -- 12. SC with the link bit clear: memory kept, rt 0 (B13)
-  pub card_12 : (ram : List ℕ) (rt value n : ℕ) (p : PAddr) → ram_after ram (sent SC rt false value p (Ram n)) ≡ ram
-  pub card_12_rt : (rt value n : ℕ) (p : PAddr) → ((sent SC rt false value p (Ram n)).reg ≡ rt) × ((sent SC rt false value p (Ram n)).value ≡ 0)
+  pub card_12 : (ram : List ℕ) (rt value n : ℕ) (p : PAddr) → ram_after ram (sent SC rt false value p (Some (Ram n))) ≡ ram
+  pub card_12_rt : (rt value n : ℕ) (p : PAddr) → ((sent SC rt false value p (Some (Ram n))).reg ≡ rt) × ((sent SC rt false value p (Some (Ram n))).value ≡ 0)

@@ -12,7 +12,6 @@ pub mod Runs
 pub mod Refusals
 pub mod Fields
 pub mod RunStops
-pub mod Turns
 pub mod Range
 pub mod Stays
 pub mod Example

@@ -2,8 +2,8 @@
 use Prim.Native.Nat.{ℕ, ◌≤◌}
 use native.Mathlib.Omega.{arith}
 use native.Mathlib.Decide.{dec_le}
-use mathlib.Core.Path.{◌≡◌, sym, ◌∙◌, ap}
-use mathlib.Core.Logic.{◌⊎◌, inl, inr}
+use mathlib.Core.Path.{◌≡◌, ◌∙◌, ap}
+use mathlib.Core.Logic.{◌⊎◌}
 use Rattle.card.specs.Run.{Whole}
 use Rattle.demands.specs.Call.{Call, run}
 use Rattle.demands.specs.Refusals.{Accepted}
@@ -25,18 +25,6 @@ module _ (c : Call) where
   how = ends c.rom c.lines c.budget c.machine c.ram
 
   module _ (a : Accepted c) where
-    stop_of : (t : OneStops) → (run c).stop ≡ (next c t.before).stop
-    stop_of t = ap (λ (w : Whole). w.stop) (accepted c a ∙ t.is)
-
-    steps_of : (t : OneStops) → (run c).steps ≡ t.before
-    steps_of t = ap (λ (w : Whole). w.steps) (accepted c a ∙ t.is)
-
-    all_stop : AllOn → (run c).stop ≡ 0
-    all_stop o = ap (λ (w : Whole). w.stop) (accepted c a) ∙ o.no_stop
-
-    all_steps : AllOn → (run c).steps ≡ c.budget
-    all_steps o = ap (λ (w : Whole). w.steps) (accepted c a) ∙ o.all_counted
-
     -- the run is what its counted steps left
     pub record Left : Type 0 where
       pub counted : GoOn c (run c).steps
@@ -45,51 +33,25 @@ module _ (c : Call) where
       pub within : (run c).steps ≤ c.budget
 
     pub left : Left
-    left = go how
-      where
-        go : AllOn ⊎ OneStops → Left
-        go (inl o) =
-            let e = all_steps o in
-            record {
-              counted = rw e (record { no_stop = o.no_stop; all_counted = o.all_counted });
-              machine = rw e (ap (λ (w : Whole). w.machine) (accepted c a));
-              ram = rw e (ap (λ (w : Whole). w.ram) (accepted c a));
-              within = omega arith;
-            }
-        go (inr t) =
-            let e = steps_of t in
-            let l = t.within in
-            record {
-              counted = rw e (record { no_stop = t.on.no_stop; all_counted = t.on.all_counted });
-              machine = rw e (ap (λ (w : Whole). w.machine) (accepted c a ∙ t.is));
-              ram = rw e (ap (λ (w : Whole). w.ram) (accepted c a ∙ t.is));
-              within = omega arith;
-            }
+    left = let h = how in let e = accepted c a in grind arith
 
   uses : (run c).stop ≡ 0 → UsesBudget c
-  uses e = let a = is_accepted c (λ l u. omega arith) in record { accepted = a; go_on = go a how }
-    where
-      go : Accepted c → AllOn ⊎ OneStops → GoOn c c.budget
-      go a (inl o) = record { no_stop = o.no_stop; all_counted = o.all_counted }
-      go a (inr t) = absurd (t.stop (sym (stop_of a t) ∙ e))
+  uses e =
+      let a = is_accepted c (λ l u. omega arith) in
+      let h = how in
+      let k = accepted c a in
+      record { accepted = a; go_on = grind arith }
 
   used : UsesBudget c → (run c).stop ≡ 0
-  used u = all_stop u.accepted (record { no_stop = u.go_on.no_stop; all_counted = u.go_on.all_counted })
+  used u = let k = accepted c u.accepted in grind arith
 
   -- a stop of 16 or more is that of a step
   stops : (n : ℕ) → 16 ≤ n → (run c).stop ≡ n → StopsWith c n
-  stops n h e = let a = is_accepted c (λ l u. omega arith) in go a how
-    where
-      go : Accepted c → AllOn ⊎ OneStops → StopsWith c n
-      go a (inl o) = let z = all_stop a o in absurd (omega arith)
-      go a (inr t) =
-          record {
-            accepted = a;
-            before = t.before;
-            within = t.within;
-            go_on = record { no_stop = t.on.no_stop; all_counted = t.on.all_counted };
-            stops = sym (stop_of a t) ∙ e;
-          }
+  stops n h e =
+      let a = is_accepted c (λ l u. omega arith) in
+      let w = how in
+      let k = accepted c a in
+      grind arith
 
   stopped : (n : ℕ) → 16 ≤ n → StopsWith c n → (run c).stop ≡ n
   stopped n h t =
@@ -100,11 +62,7 @@ module _ (c : Call) where
 
   -- the step after the counted ones is the one that stopped
   stopped_next : Accepted c → 1 ≤ (run c).stop → (next c (run c).steps).stop ≡ (run c).stop
-  stopped_next a l = go how
-    where
-      go : AllOn ⊎ OneStops → (next c (run c).steps).stop ≡ (run c).stop
-      go (inl o) = let z = all_stop a o in absurd (omega arith)
-      go (inr t) = rw (steps_of a t) (sym (stop_of a t))
+  stopped_next a l = let w = how in let k = accepted c a in grind arith
 
   within : (run c).steps ≤ c.budget
   within = go (dec_le 1 (run c).stop) (dec_le (run c).stop 4)
@@ -115,15 +73,7 @@ module _ (c : Call) where
       go (yes l) (no u) = (left (is_accepted c (λ x y. u y))).within
 
   numbers : ((run c).stop ≤ 4) ⊎ ((16 ≤ (run c).stop) × ((run c).stop ≤ 18))
-  numbers = go (dec_le 1 (run c).stop) (dec_le (run c).stop 4)
-    where
-      of : Accepted c → AllOn ⊎ OneStops → ((run c).stop ≤ 4) ⊎ ((16 ≤ (run c).stop) × ((run c).stop ≤ 18))
-      of a (inl o) = let z = all_stop a o in inl (omega arith)
-      of a (inr t) = inr (rw (stop_of a t) (stop_least _ _ _ _ t.stop))
-
-      go : Dec (1 ≤ (run c).stop) → Dec ((run c).stop ≤ 4) → ((run c).stop ≤ 4) ⊎ ((16 ≤ (run c).stop) × ((run c).stop ≤ 18))
-      go l (yes u) = inl u
-      go l (no u) = of (is_accepted c (λ x y. u y)) how
+  numbers = let w = how in grind (arith, stop_least, accepted c, is_accepted c)
 
   pub runs : Runs c
   runs =
@@ -134,7 +84,7 @@ module _ (c : Call) where
         eighteen = (stops 18 (omega arith), stopped 18 (omega arith));
         no_other = numbers;
         within_budget = within;
-        all_used = λ e. let u = uses e in all_steps u.accepted (record { no_stop = u.go_on.no_stop; all_counted = u.go_on.all_counted });
+        all_used = λ e. let u = uses e in let k = accepted c u.accepted in grind arith;
         counted = λ a. (left a).counted;
         stopped_next = stopped_next;
         machine_left = λ a. (left a).machine;

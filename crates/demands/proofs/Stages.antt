@@ -3,6 +3,7 @@ use Prim.Native.Nat.{ℕ}
 use mathlib.Core.Path.{◌≡◌, refl, sym, ◌∙◌, ap}
 use mathlib.Core.List.{List}
 use lib.ListN.{get_or}
+use Rattle.std.specs.Prelude.{Option, Result}
 use Rattle.memory.specs.declared.PAddr.{PAddr}
 use Rattle.memory.specs.declared.Eight.{Eight}
 use Rattle.memory.specs.Memory.{read}
@@ -11,7 +12,7 @@ use Rattle.tlb.specs.declared.Where.{Where}
 use Rattle.tlb.specs.Translate.{vaddr}
 use Rattle.decode.specs.Fields.{rt}
 use Rattle.execute.specs.declared.Executed.{Executed}
-use Rattle.access.specs.declared.Fetched.{Fetched}
+use Rattle.access.specs.declared.Unfetched.{Unfetched}
 use Rattle.access.specs.declared.Effect.{Effect}
 use Rattle.access.specs.Fetch.{word_found, word_at}
 use Rattle.effect.specs.Step.{executed, readied, decoded, begun, effect_of}
@@ -22,11 +23,11 @@ use Rattle.demands.specs.StepStops.Holds.{ram, rom}
 
 module _ (m : Machine) (s o : List ℕ) (lines : ℕ) where
   -- the stage after the fetch, whatever the fetch came to
-  abbrev pub after : Fetched → Effect
+  abbrev pub after : Result ℕ Unfetched → Effect
   after = begun m.cpu m.cp0 m.regs m.tlb (read s o) lines
 
   -- what the fetch comes to where PC leads so
-  abbrev pub fetch : Where → Fetched
+  abbrev pub fetch : Where → Result ℕ Unfetched
   fetch = word_at (vaddr m.cpu.pc) (read s o)
 
   pub at_fetch : Fetches m lines → effect m s o lines ≡ after (fetch (goes m 4 (vaddr m.cpu.pc)))
@@ -38,7 +39,7 @@ module _ (m : Machine) (s o : List ℕ) (lines : ℕ) where
   led mapped = refl
   led unmapped = refl
 
-  held : (p : PAddr) {x : Eight} {n : ℕ} → Holds x n → after (word_found p x) ≡ decoded m.cpu m.cp0 m.regs m.tlb (read s o) lines (lwu n p)
+  held : (p : PAddr) {x : Option Eight} {n : ℕ} → Holds x n → after (word_found p x) ≡ decoded m.cpu m.cp0 m.regs m.tlb (read s o) lines (lwu n p)
   unfolding word_found begun
   held p ram = refl
   held p rom = refl

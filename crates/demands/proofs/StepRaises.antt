@@ -1,12 +1,12 @@
 -- The exceptions of one step: from the case to the effect, and from the effect to its one case.
 use Prim.Native.Nat.{ℕ}
 use native.Mathlib.Omega.{arith}
-use mathlib.Core.Path.{◌≡◌, refl, sym, ◌∙◌, ap, subst}
+use mathlib.Core.Path.{◌≡◌, ◌∙◌, ap}
 use mathlib.Core.Bool.{Bool}
 use mathlib.Core.List.{List}
+use Rattle.std.specs.Prelude.{Option, None}
 use Rattle.memory.specs.declared.PAddr.{PAddr}
 use Rattle.memory.specs.declared.Eight.{Eight}
-use Rattle.memory.specs.declared.Eight.TheVariants.{Missing}
 use Rattle.memory.specs.Memory.{read}
 use Rattle.memory.specs.Stores.{put_bytes}
 use Rattle.tlb.specs.declared.VAddr.{VAddr}
@@ -28,53 +28,36 @@ use Rattle.card.specs.declared.Machine.{Machine}
 use Rattle.card.specs.Machine.{machine}
 use Rattle.card.specs.Step.{out, put_reg, apply, step_of}
 use Rattle.demands.specs.StepStops.{effect, LeadsTo}
-use Rattle.demands.specs.StepStops.LeadsTo.{mapped, unmapped}
 use Rattle.demands.specs.StepRaises.{ReadFault, WriteFault, MayStore, NoRam, Raises, StepRaises}
 use Rattle.demands.specs.StepRaises.Raises.{interrupt, fetch_fault, fetch_bus, unusable, reserved, load_fault, load_bus, store_fault, store_bus}
-use Rattle.demands.proofs.Onward.{entering}
 use Rattle.demands.proofs.Checks.{unusable_ready, reserved_ready}
 use Rattle.demands.proofs.Stages as stages
-use Rattle.demands.proofs.Why.{Why, effect_why}
-use Rattle.demands.proofs.Why.Why.{goes_on, enters, twice, in_a_slot, not_built}
+use Rattle.demands.proofs.Why.{effect_why}
 
 -- ---- from a stage's fact to what the stage raises
 
-module _ (op : LoadOp) (reg old : ℕ) (v : VAddr) (look : PAddr → Eight) where
+module _ (op : LoadOp) (reg old : ℕ) (v : VAddr) (look : PAddr → Option Eight) where
   load_faults : {x : Where} {e : Exception} → ReadFault v x e → loaded op reg old v look x ≡ raised e
   unfolding loaded
-  load_faults ReadFault.address = refl
-  load_faults ReadFault.refill = refl
-  load_faults ReadFault.invalid = refl
+  load_faults f = grind arith
 
-  load_misses : {x : Where} {p : PAddr} → LeadsTo x p → look p ≡ Missing → loaded op reg old v look x ≡ raised DBE
+  load_misses : {x : Where} {p : PAddr} → LeadsTo x p → look p ≡ None → loaded op reg old v look x ≡ raised DBE
   unfolding loaded got
-  load_misses mapped e = rw e
-  load_misses unmapped e = rw e
+  load_misses l e = grind arith
 
-module _ (op : StoreOp) (reg : ℕ) (link : Bool) (value : ℕ) (v : VAddr) (look : PAddr → Eight) where
+module _ (op : StoreOp) (reg : ℕ) (link : Bool) (value : ℕ) (v : VAddr) (look : PAddr → Option Eight) where
   store_faults : {x : Where} {e : Exception} → WriteFault v x e → saved op reg link value v look x ≡ raised e
   unfolding saved
-  store_faults WriteFault.address = refl
-  store_faults WriteFault.refill = refl
-  store_faults WriteFault.invalid = refl
-  store_faults (WriteFault.modified d) = rw d
-
-  no_ram : (p : PAddr) {y : Eight} → NoRam y → sent op reg link value p y ≡ raised DBE
-  unfolding sent
-  no_ram p NoRam.rom = refl
-  no_ram p NoRam.missing = refl
+  store_faults f = grind arith
 
   store_misses : {x : Where} {p : PAddr} → MayStore x p → NoRam (look p) → saved op reg link value v look x ≡ raised DBE
-  unfolding saved
-  store_misses (MayStore.mapped d) n = rw d (no_ram _ n)
-  store_misses MayStore.unmapped n = no_ram _ n
+  unfolding saved sent
+  store_misses f n = grind arith
 
 module _ (m : Machine) (s o : List ℕ) (lines : ℕ) where
   fetch_faults : {x : Where} {e : Exception} → ReadFault (vaddr m.cpu.pc) x e → stages.after m s o lines (stages.fetch m s o lines x) ≡ raised e
   unfolding word_at begun
-  fetch_faults ReadFault.address = refl
-  fetch_faults ReadFault.refill = refl
-  fetch_faults ReadFault.invalid = refl
+  fetch_faults f = grind arith
 
   -- ---- from the case to the effect
 
@@ -97,17 +80,7 @@ module _ (m : Machine) (s o : List ℕ) (lines : ℕ) where
 
   enters_raises : (e : Exception) → (effect m s o lines).turn ≡ Enter e → Raises m s o lines e
   unfolding raised turned stopped
-  enters_raises e t = go (effect_why m s o lines)
-    where
-      still : {n : ℕ} → effect m s o lines ≡ stopped n → ⊥
-      still h = let q = ap (λ (y : Effect). y.turn) h in let z : ◌≡◌ {A = ℕ} 0 1 = cc in omega arith
-
-      go : Why m s o lines (effect m s o lines) → Raises m s o lines e
-      go (goes_on h) = let q = h.turn in let z : ◌≡◌ {A = ℕ} 0 1 = cc (ap entering t) in absurd (omega arith)
-      go (enters x r h) = let q : Enter x ≡ Enter e = sym (ap (λ (y : Effect). y.turn) h) ∙ t in let y : x ≡ e = cc in subst (Raises m s o lines) y r
-      go (twice k h) = absurd (still h)
-      go (in_a_slot k h) = absurd (still h)
-      go (not_built k h) = absurd (still h)
+  enters_raises e t = let w = effect_why m s o lines in grind arith
 
   raised_enters : (e : Exception) → Raises m s o lines e → (effect m s o lines).turn ≡ Enter e
   unfolding raised turned

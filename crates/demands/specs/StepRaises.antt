@@ -1,9 +1,9 @@
 -- The exceptions of one step, each exactly in its case over the stages of the step's definition, in the order of its checks (S1, S2, S5 to S7).
-use Rattle.std.specs.Prelude.{ℕ, ◌≡◌, Bool, true, false, List, ◌↔◌}
+use Rattle.std.specs.Prelude.{ℕ, ◌≡◌, Bool, true, false, List, ◌↔◌, Option, Some, None, Result, Ok, Err}
 use Rattle.promise.specs.Pick.{both}
 use Rattle.memory.specs.declared.PAddr.{PAddr}
 use Rattle.memory.specs.declared.Eight.{Eight}
-use Rattle.memory.specs.declared.Eight.TheVariants.{Rom, Missing}
+use Rattle.memory.specs.declared.Eight.TheVariants.{Rom}
 use Rattle.memory.specs.Memory.{read}
 use Rattle.tlb.specs.declared.VAddr.{VAddr}
 use Rattle.tlb.specs.declared.Half.{Half}
@@ -14,8 +14,8 @@ use Rattle.cp0.specs.declared.Exception.{Exception}
 use Rattle.cp0.specs.declared.Exception.TheVariants.{Int, Mod, TLBL, TLBS, AdEL, AdES, IBE, DBE, Sys, Bp, RI, CpU, Ov, Tr}
 use Rattle.cp0.specs.Status.{CU0, user, interrupted}
 use Rattle.decode.specs.declared.Instr.{Instr}
-use Rattle.decode.specs.declared.Decoded.{Decoded}
-use Rattle.decode.specs.declared.Decoded.TheVariants.{Is, Coprocessor, ReservedCop0, Reserved}
+use Rattle.decode.specs.declared.Undecoded.{Undecoded}
+use Rattle.decode.specs.declared.Undecoded.TheVariants.{Coprocessor, ReservedCop0, Reserved}
 use Rattle.decode.specs.declared.LoadOp.{LoadOp}
 use Rattle.decode.specs.declared.StoreOp.{StoreOp}
 use Rattle.usability.specs.Doubleword.{is_double}
@@ -50,21 +50,21 @@ pub data MayStore : Where → PAddr → Type 0 where
   unmapped : {p : PAddr} → MayStore (Unmapped p) p
 
 -- RAM does not have the place: ROM has it, or nothing does (D9)
-pub data NoRam : Eight → Type 0 where
-  rom : {n : ℕ} → NoRam (Rom n)
-  missing : NoRam Missing
+pub data NoRam : Option Eight → Type 0 where
+  rom : {n : ℕ} → NoRam (Some (Rom n))
+  missing : NoRam None
 
 -- a decoded word, in User mode or not and with CU0 or not, needs a unit that cannot be used: CP1 and CP2 never can, CP0 not while it is locked (S6, S15, T21)
-pub data Unusable (u cu0 : Bool) : Decoded → ℕ → Type 0 where
-  coprocessor : {unit : ℕ} → Unusable u cu0 (Coprocessor unit) unit
-  cp0 : {i : Instr} → locked u cu0 ≡ true → is_cp0 i ≡ true → Unusable u cu0 (Is i) 0
-  code_unusable : locked u cu0 ≡ true → Unusable u cu0 ReservedCop0 0
+pub data Unusable (u cu0 : Bool) : Result Instr Undecoded → ℕ → Type 0 where
+  coprocessor : {unit : ℕ} → Unusable u cu0 (Err (Coprocessor unit)) unit
+  cp0 : {i : Instr} → locked u cu0 ≡ true → is_cp0 i ≡ true → Unusable u cu0 (Ok i) 0
+  code_unusable : locked u cu0 ≡ true → Unusable u cu0 (Err ReservedCop0) 0
 
 -- it is usable and reserved: no instruction, no code of COP0, or a doubleword instruction or LWU in User mode (S6, S14, S16, D11)
-pub data IsReserved (u cu0 : Bool) : Decoded → Type 0 where
-  no_instruction : IsReserved u cu0 Reserved
-  code_reserved : locked u cu0 ≡ false → IsReserved u cu0 ReservedCop0
-  doubleword : {i : Instr} → both (locked u cu0) (is_cp0 i) ≡ false → u ≡ true → is_double i ≡ true → IsReserved u cu0 (Is i)
+pub data IsReserved (u cu0 : Bool) : Result Instr Undecoded → Type 0 where
+  no_instruction : IsReserved u cu0 (Err Reserved)
+  code_reserved : locked u cu0 ≡ false → IsReserved u cu0 (Err ReservedCop0)
+  doubleword : {i : Instr} → both (locked u cu0) (is_cp0 i) ≡ false → u ≡ true → is_double i ≡ true → IsReserved u cu0 (Ok i)
 
 -- the exceptions of instructions that ask memory for nothing: overflow, trap, system call, breakpoint (S7)
 pub data OfExecute : Exception → Type 0 where
@@ -77,12 +77,12 @@ pub data OfExecute : Exception → Type 0 where
 pub data Raises (m : Machine) (ram rom : List ℕ) (lines : ℕ) : Exception → Type 0 where
   interrupt : interrupted m.cp0.status m.cp0.cause lines ≡ true → Raises m ram rom lines Int
   fetch_fault : {e : Exception} → Fetches m lines → ReadFault (vaddr m.cpu.pc) (goes m 4 (vaddr m.cpu.pc)) e → Raises m ram rom lines e
-  fetch_bus : (p : PAddr) → Fetches m lines → LeadsTo (goes m 4 (vaddr m.cpu.pc)) p → read ram rom p ≡ Missing → Raises m ram rom lines IBE
+  fetch_bus : (p : PAddr) → Fetches m lines → LeadsTo (goes m 4 (vaddr m.cpu.pc)) p → read ram rom p ≡ None → Raises m ram rom lines IBE
   unusable : (w unit : ℕ) → Brings m ram rom lines w → Unusable (user m.cp0.status) (CU0 m.cp0.status) (decode w) unit → Raises m ram rom lines (CpU unit)
   reserved : (w : ℕ) → Brings m ram rom lines w → IsReserved (user m.cp0.status) (CU0 m.cp0.status) (decode w) → Raises m ram rom lines RI
   executed : {e : Exception} → OfExecute e → Executes m ram rom lines (Plain (Raise e)) → Raises m ram rom lines e
   load_fault : {e : Exception} (op : LoadOp) (reg : ℕ) (at : VAddr) → Executes m ram rom lines (Plain (Load op reg at)) → ReadFault at (goes m (load_align op) at) e → Raises m ram rom lines e
-  load_bus : (op : LoadOp) (reg : ℕ) (at : VAddr) (p : PAddr) → Executes m ram rom lines (Plain (Load op reg at)) → LeadsTo (goes m (load_align op) at) p → read ram rom p ≡ Missing → Raises m ram rom lines DBE
+  load_bus : (op : LoadOp) (reg : ℕ) (at : VAddr) (p : PAddr) → Executes m ram rom lines (Plain (Load op reg at)) → LeadsTo (goes m (load_align op) at) p → read ram rom p ≡ None → Raises m ram rom lines DBE
   store_fault : {e : Exception} (op : StoreOp) (reg : ℕ) (at : VAddr) → Executes m ram rom lines (Plain (Store op reg at)) → WriteFault at (goes m (store_align op) at) e → Raises m ram rom lines e
   store_bus : (op : StoreOp) (reg : ℕ) (at : VAddr) (p : PAddr) → Executes m ram rom lines (Plain (Store op reg at)) → MayStore (goes m (store_align op) at) p → NoRam (read ram rom p) → Raises m ram rom lines DBE
 

@@ -1,5 +1,5 @@
 -- The stops of one step, each exactly in its case over the stages of the step's definition (N10 to N12, N14, N17 to N19).
-use Rattle.std.specs.Prelude.{ℕ, ◌≡◌, true, false, List, ◌↔◌, ◌⊎◌, get_or}
+use Rattle.std.specs.Prelude.{ℕ, ◌≡◌, true, false, List, ◌↔◌, ◌⊎◌, get_or, Option, Some, Result, Ok, Err}
 use Rattle.promise.specs.Pick.{both}
 use Rattle.memory.specs.declared.PAddr.{PAddr}
 use Rattle.memory.specs.declared.Eight.{Eight}
@@ -10,16 +10,12 @@ use Rattle.tlb.specs.declared.VAddr.{VAddr}
 use Rattle.tlb.specs.declared.Half.{Half}
 use Rattle.tlb.specs.declared.Where.{Where}
 use Rattle.tlb.specs.declared.Where.TheVariants.{Mapped, Unmapped, Double}
-use Rattle.tlb.specs.declared.Probe.TheVariants as probed
 use Rattle.tlb.specs.Translate.{vaddr}
 use Rattle.tlb.specs.Probe.{probe}
-use Rattle.cp0.specs.declared.Move.TheVariants.{NotBuilt}
 use Rattle.cp0.specs.Status.{CU0, user, interrupted}
-use Rattle.cp0.specs.Moves.{check_move}
+use Rattle.cp0.specs.Moves.{not_built, check_move}
 use Rattle.decode.specs.declared.Instr.{Instr}
-use Rattle.decode.specs.declared.Decoded.TheVariants.{Is}
-use Rattle.usability.specs.declared.Ready.{Ready}
-use Rattle.usability.specs.declared.Ready.TheVariants.{Go}
+use Rattle.usability.specs.declared.Unready.{Unready}
 use Rattle.decode.specs.declared.LoadOp.{LoadOp}
 use Rattle.decode.specs.declared.StoreOp.{StoreOp}
 use Rattle.decode.specs.declared.TlbOp.TheVariants.{TLBP}
@@ -55,9 +51,9 @@ pub data LeadsTo : Where → PAddr → Type 0 where
   unmapped : {p : PAddr} → LeadsTo (Unmapped p) p
 
 -- RAM or ROM holds these eight bytes there
-pub data Holds : Eight → ℕ → Type 0 where
-  ram : {n : ℕ} → Holds (Ram n) n
-  rom : {n : ℕ} → Holds (Rom n) n
+pub data Holds : Option Eight → ℕ → Type 0 where
+  ram : {n : ℕ} → Holds (Some (Ram n)) n
+  rom : {n : ℕ} → Holds (Some (Rom n)) n
 
 -- the fetch brings the word w (S5)
 pub record Brings (m : Machine) (ram rom : List ℕ) (lines w : ℕ) : Type 0 where
@@ -69,7 +65,7 @@ pub record Brings (m : Machine) (ram rom : List ℕ) (lines w : ℕ) : Type 0 wh
   pub word : w ≡ lwu eight at
 
 -- whether the step may go on with the word w (S6)
-abbrev pub readiness : Machine → ℕ → Ready
+abbrev pub readiness : Machine → ℕ → Result Instr Unready
 readiness m w = ready (user m.cp0.status) (CU0 m.cp0.status) m.cpu.slot (decode w)
 
 -- the word is an instruction that may go on, and it comes to x (S7)
@@ -77,7 +73,7 @@ pub record Executes (m : Machine) (ram rom : List ℕ) (lines : ℕ) (x : Execut
   pub word : ℕ
   pub instr : Instr
   pub brings : Brings m ram rom lines word
-  pub may : readiness m word ≡ Go instr
+  pub may : readiness m word ≡ Ok instr
   pub comes : execute instr m.cpu.pc (get_or m.regs (rs word) 0) (get_or m.regs (rt word) 0) m.cpu.hi m.cpu.lo ≡ x
 
 -- 16: two slots match the address of the fetch, of a load or of a store, or TLBP finds two (N10, N18)
@@ -85,14 +81,14 @@ pub data Twice (m : Machine) (ram rom : List ℕ) (lines : ℕ) : Type 0 where
   at_fetch : Fetches m lines → goes m 4 (vaddr m.cpu.pc) ≡ Double → Twice m ram rom lines
   at_load : (op : LoadOp) (reg : ℕ) (at : VAddr) → Executes m ram rom lines (Plain (Load op reg at)) → goes m (load_align op) at ≡ Double → Twice m ram rom lines
   at_store : (op : StoreOp) (reg : ℕ) (at : VAddr) → Executes m ram rom lines (Plain (Store op reg at)) → goes m (store_align op) at ≡ Double → Twice m ram rom lines
-  at_probe : Executes m ram rom lines (Command (Tlb TLBP)) → probe m.tlb m.cp0.entryhi ≡ probed.Double → Twice m ram rom lines
+  at_probe : Executes m ram rom lines (Command (Tlb TLBP)) → probe m.tlb m.cp0.entryhi ≡ Err (record {}) → Twice m ram rom lines
 
 -- 17: a branch, a jump or an ERET that may be used stands in a delay slot (N11, N19)
 pub record BranchInSlot (m : Machine) (ram rom : List ℕ) (lines : ℕ) : Type 0 where
   pub word : ℕ
   pub instr : Instr
   pub brings : Brings m ram rom lines word
-  pub is : decode word ≡ Is instr
+  pub is : decode word ≡ Ok instr
   pub branch : is_branch instr ≡ true
   pub slot : m.cpu.slot ≡ true
   pub usable : both (locked (user m.cp0.status) (CU0 m.cp0.status)) (is_cp0 instr) ≡ false
@@ -102,7 +98,7 @@ pub record MoveNotBuilt (m : Machine) (ram rom : List ℕ) (lines : ℕ) : Type 
   pub number : ℕ
   pub value : ℕ
   pub executes : Executes m ram rom lines (Command (MoveTo number value))
-  pub not_built : check_move number value ≡ NotBuilt
+  pub not_built : check_move number value ≡ Err not_built
 
 -- of every step: each stop is given just in its case, there is no other, and a step that stops changes nothing
 pub record StepStops (m : Machine) (ram rom : List ℕ) (lines : ℕ) : Type 0 where

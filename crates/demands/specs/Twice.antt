@@ -1,10 +1,9 @@
 -- What stop 16 means: the address is looked up, and two different slots of the 48 match it (N10, N18, T4).
-use Rattle.std.specs.Prelude.{ℕ, ◌%◌, ◌^◌, ◌≤◌, ◌<◌, ◌≡◌, ◌↔◌, ◌⊎◌}
+use Rattle.std.specs.Prelude.{ℕ, ◌%◌, ◌^◌, ◌≤◌, ◌<◌, ◌≡◌, ◌↔◌, ◌⊎◌, Err}
 use Rattle.tlb.specs.declared.VAddr.{VAddr}
 use Rattle.tlb.specs.declared.Mode.{Mode}
 use Rattle.tlb.specs.declared.Mode.TheVariants.{User, Kernel, Error}
 use Rattle.tlb.specs.declared.Where.TheVariants.{Double}
-use Rattle.tlb.specs.declared.Probe.TheVariants as probed
 use Rattle.tlb.specs.Slot.{asid_of}
 use Rattle.tlb.specs.Match.{matches_at, Two}
 use Rattle.tlb.specs.Translate.{vaddr}
@@ -36,4 +35,4 @@ pub record LookedUp (m : Machine) (align : ℕ) (v : VAddr) : Type 0 where
 -- of every machine: an address of a fetch, a load or a store, and TLBP, which looks EntryHi up
 pub record TwiceMeans (m : Machine) : Type 0 where
   pub address : (align : ℕ) (v : VAddr) → (goes m align v ≡ Double) ↔ (LookedUp m align v × TwoSlots m v)
-  pub tlbp : (probe m.tlb m.cp0.entryhi ≡ probed.Double) ↔ TwoSlots m (vaddr m.cp0.entryhi)
+  pub tlbp : (probe m.tlb m.cp0.entryhi ≡ Err (record {})) ↔ TwoSlots m (vaddr m.cp0.entryhi)

@@ -1,13 +1,12 @@
 -- The concrete worlds meet every hypothesis of isolation, whatever the other mill's entry is.
-use Prim.Native.Nat.{ℕ, zero, suc, ◌+◌, ◌*◌, ◌<◌}
+use Prim.Native.Nat.{ℕ, zero, suc, ◌+◌, ◌-◌, ◌<◌, ◌≤◌}
 use native.Mathlib.Omega.{arith}
-use mathlib.Core.Path.{◌≡◌, refl, sym, ◌∙◌, ap}
+use mathlib.Core.Path.{◌≡◌, refl, sym, ◌∙◌}
 use mathlib.Core.List.{◌∷◌}
-use mathlib.Core.Bool.{Bool, true, false}
 use mathlib.Core.Logic.{inl}
 use lib.Count.{ones, ones_in, count_trailing_zeros}
-use lib.Dec.{eqb}
-use lib.ListN.{length, get_or, replicate, get_or-append}
+use lib.ListN.{length, get_or, replicate, get_or-append, get_or-eq_default}
+use Rattle.std.proofs.lemmas.List.{get_or-replicate, length-replicate}
 use Rattle.memory.specs.declared.PAddr.{PAddr}
 use Rattle.tlb.specs.declared.VAddr.{VAddr}
 use Rattle.tlb.specs.declared.Half.{Half}
@@ -17,7 +16,7 @@ use Rattle.tlb.specs.declared.Where.TheVariants.{Mapped}
 use Rattle.tlb.specs.PageMask.{legal_mask, trailing_ones, page_bits}
 use Rattle.tlb.specs.Slot.{slot_at}
 use Rattle.tlb.specs.Range.{hi_in_range, lo_in_range, slot_in_range, slots_in_range, tlb_in_range}
-use Rattle.tlb.specs.Translate.{paddr, odd_of, lo_of, physical, through, through_slot, through_found, mapped}
+use Rattle.tlb.specs.Translate.{paddr, lo_of, physical, through, through_slot, through_found, mapped}
 use Rattle.cp0.specs.Registers as cp0
 use Rattle.cp0.specs.Moves.{built_status}
 use Rattle.cp0.specs.Status.{user}
@@ -32,58 +31,26 @@ use Rattle.isolation.proofs.Isolation.{begins, isolation}
 
 -- all numbers after the first slot's are 0
 zeros : (n j : ℕ) → ◌≡◌ {A = ℕ} (get_or (replicate n 0) j 0) 0
-zeros zero j = refl
-zeros (suc n) zero = refl
-zeros (suc n) (suc j) = zeros n j
+zeros n j = grind (arith, get_or-replicate {A = ℕ}, get_or-eq_default {A = ℕ}, length-replicate {A = ℕ})
 
-rest : (j : ℕ) → get_or one_slot (4 + j) 0 ≡ 0
+rest : (j : ℕ) → 4 ≤ j → get_or one_slot j 0 ≡ 0
 unfolding one_slot
-rest j = let e : 4 + j ≡ suc (suc (suc (suc j))) = omega arith in rw e (zeros 188 j)
+rest j h = let e : j ≡ suc (suc (suc (suc (j - 4)))) = omega arith in rw e (zeros 188 (j - 4))
 
--- nothing leads through a half whose number is 0
-through_none : {A : Type 0} (mask i odd n : ℕ) (p : PAddr) (h : Half) → through mask i odd 0 n ≡ Mapped p h → A
-unfolding through
-through_none mask i odd n p h e = let z : ◌≡◌ {A = ℕ} 0 1 = cc in absurd (omega arith)
-
--- and through frame 0 only its page is reached
-first_page : (n : ℕ) → physical 0 2 n < 4096
-unfolding physical page_bits trailing_ones count_trailing_zeros
-first_page n = omega arith
-
-through_first : (i odd n : ℕ) (p : PAddr) (h : Half) → through 0 i odd 2 n ≡ Mapped p h → p.0 < 4096
-unfolding through
-through_first i odd n p h e =
-    let d : paddr (physical 0 2 n) ≡ p = cc in
-    let q : physical 0 2 n ≡ p.0 = ap (λ (x : PAddr). x.0) d in
-    omega (arith, first_page n)
-
--- the first slot
+-- through the first slot only its page is reached
 first_slot : (v : VAddr) (p : PAddr) (h : Half) → through_slot (slot_at one_slot 0) 0 v ≡ Mapped p h → p.0 < 4096
-unfolding through_slot slot_at lo_of one_slot
-first_slot v p h e = go (eqb (odd_of 0 v.0) 1) refl
-  where
-    go : (b : Bool) → eqb (odd_of 0 v.0) 1 ≡ b → p.0 < 4096
-    go true t = through_none 0 0 (odd_of 0 v.0) v.0 p h (rw t at e)
-    go false t = through_first 0 (odd_of 0 v.0) v.0 p h (rw t at e)
+unfolding one_slot slot_at through_slot lo_of through physical page_bits trailing_ones count_trailing_zeros
+first_slot v p h e = grind arith
 
--- any other
+-- and nothing through any other, whose halves are not valid
 later_slot : (i : ℕ) (v : VAddr) (p : PAddr) (h : Half) → through_slot (slot_at one_slot (suc i)) (suc i) v ≡ Mapped p h → p.0 < 4096
-unfolding through_slot slot_at lo_of
-later_slot i v p h e =
-    let a : suc i * 4 + 2 ≡ 4 + (i * 4 + 2) = omega arith in
-    let b : suc i * 4 + 3 ≡ 4 + (i * 4 + 3) = omega arith in
-    let z : get_or one_slot (suc i * 4 + 2) 0 ≡ 0 = rw a (rest (i * 4 + 2)) in
-    let y : get_or one_slot (suc i * 4 + 3) 0 ≡ 0 = rw b (rest (i * 4 + 3)) in
-    go z y (eqb (odd_of (get_or one_slot (suc i * 4) 0) v.0) 1) refl
-  where
-    go : get_or one_slot (suc i * 4 + 2) 0 ≡ 0 → get_or one_slot (suc i * 4 + 3) 0 ≡ 0 → (b : Bool) → eqb (odd_of (get_or one_slot (suc i * 4) 0) v.0) 1 ≡ b → p.0 < 4096
-    go z y true t = through_none _ (suc i) _ v.0 p h (rw (t, y) at e)
-    go z y false t = through_none _ (suc i) _ v.0 p h (rw (t, z) at e)
+unfolding slot_at through_slot lo_of through
+later_slot i v p h e = grind (arith, rest)
 
 found_below : (v : VAddr) (p : PAddr) (h : Half) (f : Found) → through_found one_slot v f ≡ Mapped p h → p.0 < 4096
 unfolding through_found
-found_below v p h Absent e = let z : ◌≡◌ {A = ℕ} 0 1 = cc in absurd (omega arith)
-found_below v p h Many e = let z : ◌≡◌ {A = ℕ} 0 1 = cc in absurd (omega arith)
+found_below v p h Absent e = cc
+found_below v p h Many e = cc
 found_below v p h (One zero) e = first_slot v p h e
 found_below v p h (One (suc i)) e = later_slot i v p h e
 

@@ -2,16 +2,14 @@
 use Prim.Native.Nat.{ℕ}
 use native.Mathlib.Omega.{arith}
 use mathlib.Core.Path.{◌≡◌, refl, ap, ◌∙◌}
-use mathlib.Core.Bool.{Bool, true, false}
+use mathlib.Core.Bool.{true}
 use mathlib.Core.List.{List}
-use Rattle.memory.specs.declared.PAddr.{PAddr}
 use Rattle.tlb.specs.declared.Half.{Half}
 use Rattle.tlb.specs.declared.Found.{Found}
 use Rattle.tlb.specs.declared.Found.TheVariants.{Absent, One, Many}
-use Rattle.tlb.specs.declared.Where.TheVariants.{Mapped, Invalid, Refill, Double}
 use Rattle.tlb.specs.Slot.{slot_at, valid_of}
 use Rattle.tlb.specs.Match.{lookup}
-use Rattle.tlb.specs.Translate.{vaddr, paddr, odd_of, half_of, physical, through, through_slot, through_found, mapped}
+use Rattle.tlb.specs.Translate.{vaddr, odd_of, half_of, physical, through, through_slot, through_found, mapped}
 use Rattle.tlb.proofs.Tells.{one_only, only_one}
 use Rattle.isolation.specs.Reach.{Reached, ReachedDirty}
 use Rattle.isolation.specs.Means.{lo, Leads, LeadsDirty, ReachedMeans}
@@ -30,33 +28,22 @@ module _ (tlb : List ℕ) (asid p : ℕ) where
   unfolding mapped through_found through_slot through
   way r = go (lookup tlb asid (vaddr r.from)) refl
     where
-      half : (i : ℕ) → lookup tlb asid (vaddr r.from) ≡ One i → (b : Bool) → valid_of (lo tlb i r.from) ≡ b → Way r.half
-      half i e true t =
-          let d : Mapped (paddr (physical (slot_at tlb i).mask (lo tlb i r.from) r.from)) (picked i r.from) ≡ Mapped (paddr p) r.half = rw (e, t) at r.leads in
-          let q : paddr (physical (slot_at tlb i).mask (lo tlb i r.from) r.from) ≡ paddr p = cc in
-          let h : picked i r.from ≡ r.half = cc in
+      go : (f : Found) → lookup tlb asid (vaddr r.from) ≡ f → Way r.half
+      go Absent e = let l = r.leads in cc
+      go (One i) e =
+          let l = r.leads in
+          let t : valid_of (lo tlb i r.from) ≡ true = grind arith in
+          let q : physical (slot_at tlb i).mask (lo tlb i r.from) r.from ≡ p = grind arith in
+          let h : picked i r.from ≡ r.half = grind arith in
           record {
-            leads = record { from = r.from; slot = i; below = r.below; only = one_only tlb asid (vaddr r.from) i e; valid = t; lands = ap (λ (x : PAddr). x.0) q };
+            leads = record { from = r.from; slot = i; below = r.below; only = one_only tlb asid (vaddr r.from) i e; valid = t; lands = q };
             half_is = h;
           }
-      half i e false t =
-          let d : Invalid (picked i r.from) ≡ Mapped (paddr p) r.half = rw (e, t) at r.leads in
-          let z : ◌≡◌ {A = ℕ} 0 1 = cc in absurd (omega arith)
-
-      go : (f : Found) → lookup tlb asid (vaddr r.from) ≡ f → Way r.half
-      go Absent e = let d : Refill ≡ Mapped (paddr p) r.half = rw e at r.leads in let z : ◌≡◌ {A = ℕ} 0 1 = cc in absurd (omega arith)
-      go (One i) e = half i e (valid_of (lo tlb i r.from)) refl
-      go Many e = let d : Double ≡ Mapped (paddr p) r.half = rw e at r.leads in let z : ◌≡◌ {A = ℕ} 0 1 = cc in absurd (omega arith)
+      go Many e = let l = r.leads in cc
 
   back : Leads tlb asid p → Reached tlb asid p
   unfolding mapped through_found through_slot through
-  back l =
-      record {
-        from = l.from;
-        half = picked l.slot l.from;
-        below = l.below;
-        leads = rw (only_one tlb asid (vaddr l.from) l.slot l.only, l.valid, l.lands) refl;
-      }
+  back l = record { from = l.from; half = picked l.slot l.from; below = l.below; leads = grind (arith, only_one) }
 
   way_dirty : ReachedDirty tlb asid p → LeadsDirty tlb asid p
   way_dirty d = let w = way d.reached in record { leads = w.leads; dirty = ap (λ (h : Half). h.dirty) w.half_is ∙ d.dirty }

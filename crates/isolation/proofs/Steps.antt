@@ -1,48 +1,34 @@
 -- Many steps of a User program: what two memories, a neighbour's slots and the span leave alike, by induction.
-use Prim.Native.Nat.{ℕ, zero, suc, ◌+◌, ◌<◌}
+use Prim.Native.Nat.{ℕ, zero, suc, ◌<◌}
 use native.Mathlib.Omega.{arith}
-use mathlib.Core.Path.{◌≡◌, refl, sym, ◌∙◌, ap, subst₂}
+use mathlib.Core.Path.{◌≡◌, refl, sym, ◌∙◌, subst₂}
 use mathlib.Core.List.{List}
-use mathlib.Core.Bool.{Bool, true, false}
+use mathlib.Core.Bool.{true, false}
 use lib.Dec.{eqb}
 use Rattle.memory.specs.Memory.{rom_base}
 use Rattle.cp0.specs.Status.{CU0}
 use Rattle.card.specs.declared.Machine.{Machine}
 use Rattle.card.specs.Step.{step_of}
-use Rattle.card.specs.Run.{Whole, whole, plus, following, steps}
+use Rattle.card.specs.Run.{Whole, whole, plus, steps}
 use Rattle.isolation.specs.Reach.{SameReached, OnlyDirtyChanged}
 use Rattle.isolation.specs.Neighbour.{SameSlots}
 use Rattle.isolation.specs.Isolation.{in_user, asid}
-use Rattle.isolation.proofs.Step.{SameOut, with_tlb, out_with, step_same, step_kept, step_tlb, step_asid, step_locked, step_swap}
+use Rattle.isolation.proofs.Step.{SameOut, with_tlb, step_same, step_kept, step_tlb, step_asid, step_locked, step_swap}
 
 -- each of the first n steps begins in User mode
 abbrev pub UserSteps : List ℕ → ℕ → ℕ → Machine → List ℕ → Type 0
 UserSteps rom lines n m s = (k : ℕ) → k < n → ((steps rom lines k m s).stop ≡ 0) × (in_user (steps rom lines k m s).machine ≡ true)
 
--- the first step goes on: the run is that step and the rest
-goes_on : (rom : List ℕ) (lines n : ℕ) (m : Machine) (s : List ℕ) → eqb (step_of m s rom lines).stop 0 ≡ true
-    → steps rom lines (suc n) m s ≡ plus 1 (steps rom lines n (step_of m s rom lines).machine (step_of m s rom lines).ram)
-unfolding steps
-goes_on rom lines n m s e = rw e
-
--- or it stops
-stops : (rom : List ℕ) (lines n : ℕ) (m : Machine) (s : List ℕ) → eqb (step_of m s rom lines).stop 0 ≡ false
-    → steps rom lines (suc n) m s ≡ whole (step_of m s rom lines).machine (step_of m s rom lines).ram 0 (step_of m s rom lines).stop
-unfolding steps
-stops rom lines n m s e = rw e
-
 -- what is known of the steps holds of those after the first
 later : (rom : List ℕ) (lines n : ℕ) (m : Machine) (s : List ℕ) → eqb (step_of m s rom lines).stop 0 ≡ true
     → UserSteps rom lines (suc n) m s → UserSteps rom lines n (step_of m s rom lines).machine (step_of m s rom lines).ram
-later rom lines n m s e U k l =
-    let u = U (suc k) (omega arith) in
-    let g = goes_on rom lines k m s e in
-    (ap (λ (w : Whole). w.stop) (sym g) ∙ u.0, ap (λ (w : Whole). in_user w.machine) (sym g) ∙ u.1)
+unfolding steps
+later rom lines n m s e U k l = let u = U (suc k) (omega arith) in grind arith
 
 -- no step yet: the machine itself
 starts : (rom : List ℕ) (lines n : ℕ) (m : Machine) (s : List ℕ) → UserSteps rom lines (suc n) m s → in_user m ≡ true
 unfolding steps
-starts rom lines n m s U = (U 0 (omega arith)).1
+starts rom lines n m s U = grind arith
 
 -- a machine has this TLB and ASID, and while it is in User mode CU0 is clear
 abbrev pub Views : List ℕ → ℕ → Machine → Type 0
@@ -62,7 +48,7 @@ pub record SameWhole (tlb : List ℕ) (a : ℕ) (w₁ w₂ : Whole) : Type 0 whe
   pub ram : SameReached tlb a 0 w₁.ram w₂.ram
 
 plus_same : {tlb : List ℕ} {a : ℕ} (w₁ w₂ : Whole) → SameWhole tlb a w₁ w₂ → SameWhole tlb a (plus 1 w₁) (plus 1 w₂)
-plus_same w₁ w₂ s = record { machine = s.machine; steps = ap (λ (n : ℕ). 1 + n) s.steps; stop = s.stop; ram = s.ram }
+plus_same w₁ w₂ s = grind arith
 
 module _ (tlb : List ℕ) (a : ℕ) (rom₁ rom₂ : List ℕ) (lines : ℕ) (B : SameReached tlb a rom_base rom₁ rom₂) where
   -- a step of a machine with this view
@@ -79,15 +65,8 @@ module _ (tlb : List ℕ) (a : ℕ) (rom₁ rom₂ : List ℕ) (lines : ℕ) (B 
       → (eqb (step_of m s₁ rom₁ lines).stop 0 ≡ true
       → SameWhole tlb a (steps rom₁ lines n (step_of m s₁ rom₁ lines).machine (step_of m s₁ rom₁ lines).ram) (steps rom₂ lines n (step_of m s₁ rom₁ lines).machine (step_of m s₂ rom₂ lines).ram))
       → SameWhole tlb a (steps rom₁ lines (suc n) m s₁) (steps rom₂ lines (suc n) m s₂)
-  and_rest n m s₁ s₂ S rest = go (eqb (step_of m s₁ rom₁ lines).stop 0) refl
-    where
-      go : (b : Bool) → eqb (step_of m s₁ rom₁ lines).stop 0 ≡ b → SameWhole tlb a (steps rom₁ lines (suc n) m s₁) (steps rom₂ lines (suc n) m s₂)
-      go true e =
-          let f : eqb (step_of m s₂ rom₂ lines).stop 0 ≡ true = rw S.stop at e in
-          rw (goes_on rom₁ lines n m s₁ e, goes_on rom₂ lines n m s₂ f, ← S.machine) (plus_same _ _ (rest e))
-      go false e =
-          let f : eqb (step_of m s₂ rom₂ lines).stop 0 ≡ false = rw S.stop at e in
-          rw (stops rom₁ lines n m s₁ e, stops rom₂ lines n m s₂ f) (record { machine = S.machine; steps = refl; stop = S.stop; ram = S.ram })
+  unfolding steps
+  and_rest n m s₁ s₂ S rest = grind arith
 
   pub steps_same : (n : ℕ) (m : Machine) (s₁ s₂ : List ℕ) → Views tlb a m → SameReached tlb a 0 s₁ s₂ → UserSteps rom₁ lines n m s₁
       → SameWhole tlb a (steps rom₁ lines n m s₁) (steps rom₂ lines n m s₂)
@@ -104,17 +83,14 @@ pub record Kept (tlb : List ℕ) (a : ℕ) (s : List ℕ) (w : Whole) : Type 0 w
   pub ram : OnlyDirtyChanged tlb a s w.ram
 
 kept_trans : {tlb : List ℕ} {a : ℕ} {l₁ l₂ l₃ : List ℕ} → OnlyDirtyChanged tlb a l₁ l₂ → OnlyDirtyChanged tlb a l₂ l₃ → OnlyDirtyChanged tlb a l₁ l₃
-kept_trans f g = record { long = g.long ∙ f.long; same = λ k n. g.same k n ∙ f.same k n }
+kept_trans f g = grind arith
 
 module _ (tlb : List ℕ) (a : ℕ) (rom : List ℕ) (lines : ℕ) where
   and_rest_kept : (n : ℕ) (m : Machine) (s : List ℕ) → Views tlb a (step_of m s rom lines).machine → OnlyDirtyChanged tlb a s (step_of m s rom lines).ram
       → (eqb (step_of m s rom lines).stop 0 ≡ true → Kept tlb a (step_of m s rom lines).ram (steps rom lines n (step_of m s rom lines).machine (step_of m s rom lines).ram))
       → Kept tlb a s (steps rom lines (suc n) m s)
-  and_rest_kept n m s Q K rest = go (eqb (step_of m s rom lines).stop 0) refl
-    where
-      go : (b : Bool) → eqb (step_of m s rom lines).stop 0 ≡ b → Kept tlb a s (steps rom lines (suc n) m s)
-      go true e = let r = rest e in rw (goes_on rom lines n m s e) (record { views = r.views; ram = kept_trans K r.ram })
-      go false e = rw (stops rom lines n m s e) (record { views = Q; ram = K })
+  unfolding steps
+  and_rest_kept n m s Q K rest = grind arith
 
   pub steps_kept : (n : ℕ) (m : Machine) (s : List ℕ) → Views tlb a m → UserSteps rom lines n m s → Kept tlb a s (steps rom lines n m s)
   unfolding steps
@@ -140,10 +116,5 @@ module _ (tlb : List ℕ) (a : ℕ) (rom : List ℕ) (lines : ℕ) where
   steps_swap t S (suc n) m s Q U =
       let u = starts rom lines n m s U in
       let e = step_swap lines m u (Q.2 u) s rom t (subst₂ (λ (l : List ℕ) (b : ℕ). SameSlots b l t) (sym Q.0) (sym Q.1) S) in
-      rw e (go (λ g. steps_swap t S n (step_of m s rom lines).machine (step_of m s rom lines).ram (views_next tlb a rom lines m s u Q) (later rom lines n m s g U)) (eqb (step_of m s rom lines).stop 0) refl)
-    where
-      go : (eqb (step_of m s rom lines).stop 0 ≡ true → steps rom lines n (with_tlb (step_of m s rom lines).machine t) (step_of m s rom lines).ram ≡ swapped t (steps rom lines n (step_of m s rom lines).machine (step_of m s rom lines).ram))
-          → (b : Bool) → eqb (step_of m s rom lines).stop 0 ≡ b
-          → following (out_with (step_of m s rom lines) t) (steps rom lines n (with_tlb (step_of m s rom lines).machine t) (step_of m s rom lines).ram) ≡ swapped t (following (step_of m s rom lines) (steps rom lines n (step_of m s rom lines).machine (step_of m s rom lines).ram))
-      go rest true e = rw (e, rest e) refl
-      go rest false e = rw e refl
+      let rest = λ (g : eqb (step_of m s rom lines).stop 0 ≡ true). steps_swap t S n (step_of m s rom lines).machine (step_of m s rom lines).ram (views_next tlb a rom lines m s u Q) (later rom lines n m s g U) in
+      rw e (grind arith)

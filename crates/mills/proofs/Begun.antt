@@ -3,10 +3,11 @@ use Prim.Native.Nat.{ℕ, zero, suc, ◌+◌, ◌*◌, ◌<◌}
 use native.Mathlib.Omega.{arith}
 use mathlib.Core.Path.{◌≡◌, refl, ap, ◌∙◌}
 use mathlib.Core.Bool.{Bool}
-use mathlib.Core.List.{List}
 use lib.ListN.{length, get_or, replicate}
 use Rattle.card.specs.Machine.{fresh_slots, fresh}
-use Rattle.place.specs.Plan.{begun, kernel_pages}
+use Rattle.std.specs.Prelude.{Option, None}
+use Rattle.place.specs.declared.Owner.{Owner}
+use Rattle.place.specs.Plan.{begun}
 use Rattle.mills.proofs.Planned.{Planned}
 
 -- four numbers on is one slot on
@@ -39,19 +40,19 @@ lo_fresh (suc n) i zero (suc zero) l t = refl
 lo_fresh (suc n) i zero (suc (suc h)) l t = absurd (omega arith)
 lo_fresh (suc n) i (suc j) h l t = let e : suc j * 4 + 2 + h ≡ suc (suc (suc (suc (j * 4 + 2 + h)))) = omega arith in rw e (lo_fresh n (i + 1) j h (omega arith) t)
 
-zeros_at : (n g : ℕ) → get_or {A = ℕ} (replicate n 0) g 0 ≡ 0
-zeros_at zero g = refl
-zeros_at (suc n) zero = refl
-zeros_at (suc n) (suc g) = zeros_at n g
+nobody_at : (n g : ℕ) → get_or {A = Option Owner} (replicate n None) g None ≡ None
+nobody_at zero g = refl
+nobody_at (suc n) zero = refl
+nobody_at (suc n) (suc g) = nobody_at n g
 
-pub begun_planned : (may : ℕ → ℕ → Bool → Type 0) (file : List ℕ) → Planned may (kernel_pages file) (begun file)
+pub begun_planned : (may : ℕ → ℕ → Bool → Type 0) (kernel : ℕ) → Planned may kernel (begun kernel)
 unfolding begun fresh
-begun_planned may file =
+begun_planned may kernel =
     record {
       used_small = omega arith;
       used_next = omega arith;
       after = omega arith;
-      low = λ g h. zeros_at 16 g;
+      low = λ g h. nobody_at 16 g;
       slots = fresh_long 48 0;
       pages = refl;
       masks = λ i h. mask_fresh 48 0 i h;

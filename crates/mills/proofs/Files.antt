@@ -1,27 +1,28 @@
 -- An image that was made: no file has a fault, the RAM was not full, and the reader gives back what was placed.
 use Prim.Native.Nat.{ℕ, zero, suc, ◌+◌, ◌^◌, ◌<◌, ◌≤◌}
 use native.Mathlib.Omega.{arith}
-use mathlib.Core.Path.{◌≡◌, refl, ap, ap₂, ◌∙◌}
+use mathlib.Core.Path.{◌≡◌, refl, sym, ap, ◌∙◌}
 use mathlib.Core.Bool.{Bool, true, false}
-use mathlib.Core.List.{List, [], ◌∷◌}
+use mathlib.Core.List.{List}
 use Rattle.std.specs.Prelude.{Option, Some, None, Result, Ok, Err}
 use lib.Dec.{eqb, leb, ltb}
 use lib.ListN.{length, take, drop}
 use lib.Seq.{sets, sets-eq, take-append_seam}
 use borrow.Author.Tests.{leb-true, eqb-true, eqb-false, ne_eqb, ltb-true}
 use Rattle.tlb.specs.Slot.{asid_of}
-use Rattle.tlb.proofs.StaysInRange.{both_true}
 use Rattle.cp0.specs.declared.Cp0.{Cp0}
 use Rattle.cp0.specs.Status.{CU0, user}
 use Rattle.effect.specs.declared.Cpu.{Cpu}
 use Rattle.elf.specs.declared.Space.TheVariants.{User, Kernel}
 use Rattle.elf.specs.Faults as E
 use Rattle.elf.proofs.Sound as sound
+use Rattle.std.specs.Cmp.Lexicographic.{same_text}
+use Rattle.image.specs.declared.Refusal as image
 use Rattle.image.specs.Image.{image_of, ram_after}
 use Rattle.place.specs.declared.Difference.{Difference}
 use Rattle.place.specs.declared.Difference.TheVariants.{Slots, Bytes, Mode, Cu0, Asid, Start}
 use Rattle.place.specs.declared.Refusal.{Refusal}
-use Rattle.place.specs.declared.Refusal.TheVariants.{NoCode, TooLong, Undone}
+use Rattle.place.specs.declared.Refusal.TheVariants.{NoCode, TooLong, NoImage, Undone}
 use Rattle.place.specs.Plan.{plan_of}
 use Rattle.place.specs.Ram.{ram_of}
 use Rattle.place.specs.Made.{Verdict, none, or, of_file, kernel_fault, kernel_refusal, program_refusal, programs_refusal, blank, vector_refusal, files_refusal, full_refusal, early, text_of, same, unlike, undone, read_refusal, text_made, made_of, out_after, zeros}
@@ -51,12 +52,8 @@ full_none file None e = refl
 full_none file (Some k) e = cc
 
 -- two lists of the same numbers are equal
-pub same_equal : (a b : List ℕ) → same a b ≡ true → a ≡ b
-unfolding same
-same_equal [] [] e = refl
-same_equal [] (y ∷ ys) e = let z : ◌≡◌ {A = ℕ} 0 1 = cc in absurd (omega arith)
-same_equal (x ∷ xs) [] e = let z : ◌≡◌ {A = ℕ} 0 1 = cc in absurd (omega arith)
-same_equal (x ∷ xs) (y ∷ ys) e = let b = both_true (eqb x y) (same xs ys) e in ap₂ (λ (h : ℕ) (t : List ℕ). h ∷ t) (eqb-true _ _ b.0) (same_equal xs ys b.1)
+same_equal : (a b : List ℕ) → same a b ≡ true → a ≡ b
+same_equal a b e = same_text a b (sym e)
 
 -- a machine that is as a User program's is to start
 pub record Like (cpu : Cpu) (cp0 : Cp0) : Type 0 where
@@ -101,7 +98,7 @@ sets_take was text h = ap (λ (l : List ℕ). take (length text) l) (sets-eq tex
 
 -- what the reader makes of a text is what was placed, as a User program's is to start
 pub record Back (text tlb ram : List ℕ) : Type 0 where
-  pub read : (image_of text zeros).number ≡ 0
+  pub read : (image_of text zeros).refusal ≡ None
   pub slots : (image_of text zeros).machine.tlb ≡ tlb
   pub bytes : ram_after text zeros ≡ ram
   pub like : Like (image_of text zeros).machine.cpu (image_of text zeros).machine.cp0
@@ -109,7 +106,7 @@ pub record Back (text tlb ram : List ℕ) : Type 0 where
 read_back : (text : List ℕ) (n : ℕ) (tlb ram : List ℕ) → 1 ≤ n → read_refusal text n tlb ram ≡ none → Back text tlb ram
 unfolding read_refusal undone
 read_back text n tlb ram some e =
-    go (eqb (image_of text zeros).number 0) (same (image_of text zeros).machine.tlb tlb) (same (ram_after text zeros) ram) (unlike (image_of text zeros).machine.cpu (image_of text zeros).machine.cp0) refl refl refl refl
+    go (image_of text zeros).refusal (same (image_of text zeros).machine.tlb tlb) (same (ram_after text zeros) ram) (unlike (image_of text zeros).machine.cpu (image_of text zeros).machine.cp0) refl refl refl refl
   where
     programs : eqb n 0 ≡ false
     programs = let z : n ≡ 0 → ⊥ = λ d. absurd (omega arith) in ne_eqb _ _ z
@@ -117,30 +114,30 @@ read_back text n tlb ram some e =
     lost : {r : Refusal} → ◌≡◌ {A = Verdict} (Err r) none → Back text tlb ram
     lost z = cc
 
-    go : (t u v : Bool) (w : Option Difference) → eqb (image_of text zeros).number 0 ≡ t → same (image_of text zeros).machine.tlb tlb ≡ u → same (ram_after text zeros) ram ≡ v → unlike (image_of text zeros).machine.cpu (image_of text zeros).machine.cp0 ≡ w → Back text tlb ram
-    go true true true None p q r s =
+    go : (t : Option image.Refusal) (u v : Bool) (w : Option Difference) → (image_of text zeros).refusal ≡ t → same (image_of text zeros).machine.tlb tlb ≡ u → same (ram_after text zeros) ram ≡ v → unlike (image_of text zeros).machine.cpu (image_of text zeros).machine.cp0 ≡ w → Back text tlb ram
+    go None true true None p q r s =
         record {
-          read = eqb-true _ _ p;
+          read = p;
           slots = same_equal _ _ q;
           bytes = same_equal _ _ r;
           like = unlike_none _ _ s;
         }
-    go false u v w p q r s = lost (rw p at e)
-    go true false v w p q r s = lost {r = Undone Slots} (rw (p, programs, q) at e)
-    go true true false w p q r s = lost {r = Undone Bytes} (rw (p, programs, q, r) at e)
-    go true true true (Some d) p q r s = lost {r = Undone d} (rw (p, programs, q, r, s) at e)
+    go (Some x) u v w p q r s = lost {r = NoImage x.number} (rw p at e)
+    go None false v w p q r s = lost {r = Undone Slots} (rw (p, programs, q) at e)
+    go None true false w p q r s = lost {r = Undone Bytes} (rw (p, programs, q, r) at e)
+    go None true true (Some d) p q r s = lost {r = Undone d} (rw (p, programs, q, r, s) at e)
 
 module _ (file : ℕ → List ℕ) (n : ℕ) (settings : List ℕ) (some : 1 ≤ n) (long : ℕ) (done : made_of file n settings ≡ Ok long) where
   early_text : (early file n ≡ none) × (text_made (text_of file n settings) n (plan_of file n).tlb (ram_of file n) ≡ Ok long)
   unfolding made_of
   early_text = or_none (early file n) (text_made (text_of file n settings) n (plan_of file n).tlb (ram_of file n)) long done
 
-  files_full : (files_refusal file n ≡ none) × (full_refusal (file 0) (plan_of file n).room.full ≡ none)
+  files_full : (files_refusal file n ≡ none) × (full_refusal (file 0) (plan_of file n).full ≡ none)
   unfolding early
-  files_full = or_none (files_refusal file n) (full_refusal (file 0) (plan_of file n).room.full) tt early_text.0
+  files_full = or_none (files_refusal file n) (full_refusal (file 0) (plan_of file n).full) tt early_text.0
 
-  pub not_full : (plan_of file n).room.full ≡ None
-  not_full = full_none (file 0) (plan_of file n).room.full files_full.1
+  pub not_full : (plan_of file n).full ≡ None
+  not_full = full_none (file 0) (plan_of file n).full files_full.1
 
   kernel_rest : (kernel_refusal (file 0) n ≡ none) × (or (programs_refusal file n 1) (vector_refusal (file 0) n) ≡ none)
   unfolding files_refusal

@@ -23,7 +23,7 @@ module _ (may : ℕ → ℕ → Bool → Type 0) (k : ℕ) where
   pub record Grown (p q : Plan) : Type 0 where
     pub planned : Planned may k q
     pub keeps : (b x : ℕ) (w : Bool) → There p b x w → There q b x w
-    pub before : q.room.full ≡ None → p.room.full ≡ None
+    pub before : q.full ≡ None → p.full ≡ None
 
   still : (p : Plan) → Planned may k p → Grown p p
   still p P = record { planned = P; keeps = λ b x w T. T; before = λ e. e }
@@ -44,7 +44,7 @@ module _ (may : ℕ → ℕ → Bool → Type 0) (k : ℕ) where
     -- it grew by page x of ASID a
     record Grew (x : ℕ) (w : Bool) (p q : Plan) : Type 0 where
       grown : Grown p q
-      has : q.room.full ≡ None → There q a x w
+      has : q.full ≡ None → There q a x w
 
     add_grew : (p : Plan) → Planned may k p → (x : ℕ) (w : Bool) → Fit a x w → Grew x w p (add p a x w)
     add_grew p P x w F =
@@ -57,7 +57,7 @@ module _ (may : ℕ → ℕ → Bool → Type 0) (k : ℕ) where
     -- it grew by n pages from page x on
     pub record GrewBy (x n : ℕ) (w : Bool) (p q : Plan) : Type 0 where
       pub grown : Grown p q
-      pub has : q.room.full ≡ None → (y : ℕ) → x ≤ y → y < x + n → There q a y w
+      pub has : q.full ≡ None → (y : ℕ) → x ≤ y → y < x + n → There q a y w
 
     run_grew : (n : ℕ) (p : Plan) → Planned may k p → (x : ℕ) (w : Bool) → ((y : ℕ) → x ≤ y → y < x + n → Fit a y w) → GrewBy x n w p (add_run p a x w n)
     unfolding add_run
@@ -67,14 +67,14 @@ module _ (may : ℕ → ℕ → Bool → Type 0) (k : ℕ) where
         let h = run_grew n (add p a x w) g.grown.planned (x + 1) w (λ y l u. F y (omega arith) (omega arith)) in
         record { grown = then g.grown h.grown; has = λ e y l u. at g h e y l u (same? y x) }
       where
-        at : Grew x w p (add p a x w) → GrewBy (x + 1) n w (add p a x w) (add_run (add p a x w) a (x + 1) w n) → (add_run (add p a x w) a (x + 1) w n).room.full ≡ None → (y : ℕ) → x ≤ y → y < x + suc n → (y ≡ x) ⊎ (y ≡ x → ⊥) → There (add_run (add p a x w) a (x + 1) w n) a y w
+        at : Grew x w p (add p a x w) → GrewBy (x + 1) n w (add p a x w) (add_run (add p a x w) a (x + 1) w n) → (add_run (add p a x w) a (x + 1) w n).full ≡ None → (y : ℕ) → x ≤ y → y < x + suc n → (y ≡ x) ⊎ (y ≡ x → ⊥) → There (add_run (add p a x w) a (x + 1) w n) a y w
         at g h e y l u (inl s) = subst (λ (z : ℕ). There (add_run (add p a x w) a (x + 1) w n) a z w) (sym s) (h.grown.keeps a x w (g.has (h.grown.before e)))
         at g h e y l u (inr s) = h.has e y (omega arith) (omega arith)
 
     -- it grew by the pages of n headers from header i on
     record GrewSegments (file : List ℕ) (i n : ℕ) (p q : Plan) : Type 0 where
       grown : Grown p q
-      has : q.room.full ≡ None → (j : ℕ) → i ≤ j → j < i + n → (y : ℕ) → (pages_at User file j).first ≤ y → y < (pages_at User file j).first + (pages_at User file j).count → There q a y (pages_at User file j).writable
+      has : q.full ≡ None → (j : ℕ) → i ≤ j → j < i + n → (y : ℕ) → (pages_at User file j).first ≤ y → y < (pages_at User file j).first + (pages_at User file j).count → There q a y (pages_at User file j).writable
 
     segments_grew : (file : List ℕ) → FitFile a file → (n : ℕ) (p : Plan) → Planned may k p → (i : ℕ) → i + n ≤ count file → GrewSegments file i n p (add_segments p a file n i)
     unfolding add_segments add_segment
@@ -84,7 +84,7 @@ module _ (may : ℕ → ℕ → Bool → Type 0) (k : ℕ) where
         let s = segments_grew file F n (add_segment p a file i) g.grown.planned (i + 1) (omega arith) in
         record { grown = then g.grown s.grown; has = λ e j l u. at g s e j l u (same? j i) }
       where
-        at : GrewBy (pages_at User file i).first (pages_at User file i).count (pages_at User file i).writable p (add_segment p a file i) → GrewSegments file (i + 1) n (add_segment p a file i) (add_segments (add_segment p a file i) a file n (i + 1)) → (add_segments (add_segment p a file i) a file n (i + 1)).room.full ≡ None → (j : ℕ) → i ≤ j → j < i + suc n → (j ≡ i) ⊎ (j ≡ i → ⊥) → (y : ℕ) → (pages_at User file j).first ≤ y → y < (pages_at User file j).first + (pages_at User file j).count → There (add_segments (add_segment p a file i) a file n (i + 1)) a y (pages_at User file j).writable
+        at : GrewBy (pages_at User file i).first (pages_at User file i).count (pages_at User file i).writable p (add_segment p a file i) → GrewSegments file (i + 1) n (add_segment p a file i) (add_segments (add_segment p a file i) a file n (i + 1)) → (add_segments (add_segment p a file i) a file n (i + 1)).full ≡ None → (j : ℕ) → i ≤ j → j < i + suc n → (j ≡ i) ⊎ (j ≡ i → ⊥) → (y : ℕ) → (pages_at User file j).first ≤ y → y < (pages_at User file j).first + (pages_at User file j).count → There (add_segments (add_segment p a file i) a file n (i + 1)) a y (pages_at User file j).writable
         at g s e j l u (inl d) =
             subst (λ (m : ℕ). (y : ℕ) → (pages_at User file m).first ≤ y → y < (pages_at User file m).first + (pages_at User file m).count → There (add_segments (add_segment p a file i) a file n (i + 1)) a y (pages_at User file m).writable) (sym d)
             (λ y f t. s.grown.keeps a y (pages_at User file i).writable (g.has (s.grown.before e) y f t))
@@ -92,7 +92,7 @@ module _ (may : ℕ → ℕ → Bool → Type 0) (k : ℕ) where
 
     pub record GrewProgram (file : List ℕ) (p q : Plan) : Type 0 where
       pub grown : Grown p q
-      pub has : q.room.full ≡ None → Whole a file q
+      pub has : q.full ≡ None → Whole a file q
 
     pub program_grew : (file : List ℕ) → FitFile a file → may a stack true → (p : Plan) → Planned may k p → GrewProgram file p (add_program p a file)
     unfolding add_program
@@ -112,7 +112,7 @@ module _ (may : ℕ → ℕ → Bool → Type 0) (k : ℕ) where
   -- it grew by n programs from program a on
   pub record GrewPrograms (file : ℕ → List ℕ) (a n : ℕ) (p q : Plan) : Type 0 where
     pub grown : Grown p q
-    pub has : q.room.full ≡ None → (b : ℕ) → a ≤ b → b < a + n → Whole b (file b) q
+    pub has : q.full ≡ None → (b : ℕ) → a ≤ b → b < a + n → Whole b (file b) q
 
   carry : (b : ℕ) (file : List ℕ) (q r : Plan) → Grown q r → Whole b file q → Whole b file r
   carry b file q r G W =
@@ -130,6 +130,6 @@ module _ (may : ℕ → ℕ → Bool → Type 0) (k : ℕ) where
       let r = programs_grew file n (a + 1) (omega arith) (omega arith) (λ b l u. F b (omega arith) (omega arith)) (add_program p a (file a)) g.grown.planned in
       record { grown = then g.grown r.grown; has = λ e b l u. at g.has r e b l u (same? b a) }
     where
-      at : ((add_program p a (file a)).room.full ≡ None → Whole a (file a) (add_program p a (file a))) → GrewPrograms file (a + 1) n (add_program p a (file a)) (add_programs (add_program p a (file a)) file n (a + 1)) → (add_programs (add_program p a (file a)) file n (a + 1)).room.full ≡ None → (b : ℕ) → a ≤ b → b < a + suc n → (b ≡ a) ⊎ (b ≡ a → ⊥) → Whole b (file b) (add_programs (add_program p a (file a)) file n (a + 1))
+      at : ((add_program p a (file a)).full ≡ None → Whole a (file a) (add_program p a (file a))) → GrewPrograms file (a + 1) n (add_program p a (file a)) (add_programs (add_program p a (file a)) file n (a + 1)) → (add_programs (add_program p a (file a)) file n (a + 1)).full ≡ None → (b : ℕ) → a ≤ b → b < a + suc n → (b ≡ a) ⊎ (b ≡ a → ⊥) → Whole b (file b) (add_programs (add_program p a (file a)) file n (a + 1))
       at g r e b l u (inr d) = r.has e b (omega arith) (omega arith)
       at g r e b l u (inl d) = subst (λ (m : ℕ). Whole m (file m) (add_programs (add_program p a (file a)) file n (a + 1))) (sym d) (carry a (file a) (add_program p a (file a)) (add_programs (add_program p a (file a)) file n (a + 1)) r.grown (g (r.grown.before e)))

@@ -46,7 +46,7 @@ module _ {may : ℕ → ℕ → Bool → Type 0} {k : ℕ} (p : Plan) (L : Plann
       y : picked p.tlb s v ≡ lo p s (v / 4096 % 2)
       y = picks p L s v there
 
-      by_half : planned.Half may k p.room.next p.pages (hi p s) (lo p s (v / 4096 % 2)) (v / 4096 % 2) → valid_of (lo p s (v / 4096 % 2)) ≡ true
+      by_half : planned.Half may k p.next p.pages (hi p s) (lo p s (v / 4096 % 2)) (v / 4096 % 2) → valid_of (lo p s (v / 4096 % 2)) ≡ true
       by_half (inl e) = absurd (T.some e)
       by_half (inr h) = ap (λ (n : ℕ). valid_of n) h.is ∙ lo_valid h.frame h.writable
 

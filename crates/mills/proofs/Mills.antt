@@ -5,9 +5,9 @@ use mathlib.Core.Path.{◌≡◌, refl, sym, ap, ◌∙◌, subst}
 use mathlib.Core.Bool.{Bool, true, false}
 use mathlib.Core.List.{List}
 use mathlib.Core.Logic.{◌⊎◌, inl, inr}
-use lib.Dec.{eqb, leb}
+use lib.Dec.{eqb}
 use lib.ListN.{length, get_or}
-use borrow.Author.Tests.{ne_eqb, lt-ltb, le-ltb, leb-true, leb-false, eqb-true}
+use borrow.Author.Tests.{lt-ltb, le-ltb, eqb-true}
 use Rattle.promise.specs.Pick.{pick}
 use Rattle.tlb.specs.declared.Half.{Half}
 use Rattle.tlb.specs.declared.Where.TheVariants.{Mapped}
@@ -21,7 +21,9 @@ use Rattle.elf.specs.Pages.{spans, pages_of, pages_at}
 use Rattle.elf.specs.Faults.{none, file_fault}
 use Rattle.elf.proofs.Standing.{inside_user, segment_stands, nothing_stands}
 use Rattle.image.proofs.Exact as image
-use Rattle.place.specs.Plan.{Plan, begun, higher, top_of, top_from, kernel_pages, plan_of}
+use Rattle.std.specs.Prelude.{Option, Some, None, max}
+use Rattle.place.specs.declared.Owner.{Owner}
+use Rattle.place.specs.Plan.{Plan, owner, begun, top_of, top_from, kernel_pages, plan_of}
 use Rattle.place.specs.Ram.{owned_byte, byte_at, bytes_from, ram_of}
 use Rattle.place.specs.Made.{text_of, zeros}
 use Rattle.mills.specs.Pages.{PageOf, Page, of_segment, of_stack}
@@ -36,12 +38,12 @@ use Rattle.mills.proofs.Leads.{somewhere}
 use Rattle.mills.proofs.Files.{Back, back, not_full, kernel_sound, vectors_sound, program_sound, printed}
 
 -- the RAM's bytes, one by one
-bytes_long : (file : ℕ → List ℕ) (k : ℕ) (pages : List ℕ) (n p : ℕ) → length (bytes_from file k pages n p) ≡ n
+bytes_long : (file : ℕ → List ℕ) (k : ℕ) (pages : List (Option Owner)) (n p : ℕ) → length (bytes_from file k pages n p) ≡ n
 unfolding bytes_from
 bytes_long file k pages zero p = refl
 bytes_long file k pages (suc n) p = ap suc (bytes_long file k pages n (p + 1))
 
-bytes_at : (file : ℕ → List ℕ) (k : ℕ) (pages : List ℕ) (n p q : ℕ) → q < n → get_or (bytes_from file k pages n p) q 0 ≡ byte_at file k pages (p + q)
+bytes_at : (file : ℕ → List ℕ) (k : ℕ) (pages : List (Option Owner)) (n p q : ℕ) → q < n → get_or (bytes_from file k pages n p) q 0 ≡ byte_at file k pages (p + q)
 unfolding bytes_from
 bytes_at file k pages zero p q h = absurd (omega arith)
 bytes_at file k pages (suc n) p zero h = ap (λ (x : ℕ). byte_at file k pages x) (omega arith)
@@ -90,14 +92,6 @@ module _ (file : List ℕ) (sound : file_fault User file ≡ none) (i : ℕ) (th
   page_small : (y : ℕ) → PageOf file i y → y < 2 ^ 19
   page_small y P = let h = inside_user file sound i there P.loads in let t = P.last in omega arith
 
--- the higher of two numbers is no less than either
-higher_least : (a b : ℕ) → (a ≤ higher a b) × (b ≤ higher a b)
-higher_least a b = go (leb a b) refl
-  where
-    go : (t : Bool) → leb a b ≡ t → (a ≤ pick t b a) × (b ≤ pick t b a)
-    go true e = (leb-true _ _ e, omega arith)
-    go false e = let h : b < a = leb-false _ _ e in (omega arith, omega arith)
-
 -- the kernel's pages are no fewer than each header's end
 record Least (file : List ℕ) (left i top found : ℕ) : Type 0 where
   begun_there : top ≤ found
@@ -107,12 +101,11 @@ top_least : (file : List ℕ) (left i top : ℕ) → Least file left i top (top_
 unfolding top_from
 top_least file zero i top = record { begun_there = omega arith; each = λ j l u. absurd (omega arith) }
 top_least file (suc left) i top =
-    let r = top_least file left (i + 1) (higher top (top_of file i)) in
-    let h = higher_least top (top_of file i) in
-    record { begun_there = let z = r.begun_there in let y = h.0 in omega arith; each = λ j l u. at r.begun_there r.each j l u (same? j i) }
+    let r = top_least file left (i + 1) (max top (top_of file i)) in
+    record { begun_there = let z = r.begun_there in omega arith; each = λ j l u. at r.begun_there r.each j l u (same? j i) }
   where
-    at : higher top (top_of file i) ≤ top_from file left (i + 1) (higher top (top_of file i)) → ((j : ℕ) → i + 1 ≤ j → j < i + 1 + left → top_of file j ≤ top_from file left (i + 1) (higher top (top_of file i))) → (j : ℕ) → i ≤ j → j < i + suc left → (j ≡ i) ⊎ (j ≡ i → ⊥) → top_of file j ≤ top_from file left (i + 1) (higher top (top_of file i))
-    at b r j l u (inl e) = let y = (higher_least top (top_of file i)).1 in subst (λ (x : ℕ). top_of file x ≤ top_from file left (i + 1) (higher top (top_of file i))) (sym e) (omega arith)
+    at : {rest : ℕ} → max top (top_of file i) ≤ rest → ((j : ℕ) → i + 1 ≤ j → j < i + 1 + left → top_of file j ≤ rest) → (j : ℕ) → i ≤ j → j < i + suc left → (j ≡ i) ⊎ (j ≡ i → ⊥) → top_of file j ≤ rest
+    at {rest} b r j l u (inl e) = subst (λ (x : ℕ). top_of file x ≤ rest) (sym e) (omega arith)
     at b r j l u (inr e) = r j (omega arith) (omega arith)
 
 -- a kernel's segment is in the kernel's pages
@@ -149,14 +142,14 @@ module _ (file : ℕ → List ℕ) (n : ℕ) (settings : List ℕ) (I : spec.Ima
   B : Back (text_of file n settings) (plan_of file n).tlb (ram_of file n)
   B = back file n settings I.some I.long I.made
 
-  G : GrewPrograms may k file 1 n (begun (file 0)) (plan_of file n)
+  G : GrewPrograms may k file 1 n (begun (kernel_pages (file 0))) (plan_of file n)
   unfolding plan_of
   G =
       let f = I.few in
       programs_grew may k file n 1 (omega arith) (omega arith)
       (λ b l u. (fit b l u, of_stack refl refl))
-      (begun (file 0))
-      (begun_planned may (file 0))
+      (begun (kernel_pages (file 0)))
+      (begun_planned may (kernel_pages (file 0)))
     where
       fit : (b : ℕ) → 1 ≤ b → b < 1 + n → FitFile may k b (file b)
       fit b l u i there y low high =
@@ -216,23 +209,18 @@ module _ (file : ℕ → List ℕ) (n : ℕ) (settings : List ℕ) (I : spec.Ima
     after : kernel_pages (file 0) ≤ q / 4096
     after = let e = page_is in let f = W.from in omega arith
 
-    owned : get_or (plan_of file n).pages (q / 4096) 0 ≡ v / 4096 * 4096 + a
-    owned = ap (λ (g : ℕ). get_or (plan_of file n).pages g 0) page_is ∙ W.owned
+    owned : get_or (plan_of file n).pages (q / 4096) None ≡ Some (owner a (v / 4096))
+    owned = ap (λ (g : ℕ). get_or (plan_of file n).pages g None) page_is ∙ W.owned
 
     owner_is : spec.owner_of file n settings (q / 4096) ≡ a
-    owner_is = let e = owned in let s = M.most in let f = I.few in omega arith
+    owner_is = ap (λ (o : Option Owner). spec.owner_asid o) owned
 
     byte_is : get_or (spec.ram file n settings) q 0 ≡ stands User (file a) v
     unfolding byte_at owned_byte
     byte_is =
         let e = W.is in
-        let s = M.some in
-        let m = M.most in
-        let f = I.few in
-        let x : (v / 4096 * 4096 + a) % 4096 ≡ a = omega arith in
-        let y : (v / 4096 * 4096 + a) / 4096 * 4096 + q % 4096 ≡ v = omega arith in
-        let z : v / 4096 * 4096 + a ≡ 0 → ⊥ = λ d. absurd (omega arith) in
-        ram_at q ram_is ∙ rw (le-ltb (q / 4096) (kernel_pages (file 0)) after, owned, ne_eqb (v / 4096 * 4096 + a) 0 z, x, y) refl
+        let y : v / 4096 * 4096 + q % 4096 ≡ v = omega arith in
+        ram_at q ram_is ∙ rw (le-ltb (q / 4096) (kernel_pages (file 0)) after, owned, y) refl
 
   apart : spec.Apart file n settings
   apart =
@@ -240,7 +228,7 @@ module _ (file : ℕ → List ℕ) (n : ℕ) (settings : List ℕ) (I : spec.Ima
         own = λ a q M r. owner_is a r.from q r.half M r.below r.leads;
         after_kernel = λ a q M r. after a r.from q r.half M r.below r.leads;
         kernel_inside = λ i q h l f u. kernel_covers (file 0) i h l q f u;
-        kernels = λ g h. ap (λ (x : ℕ). x % 4096) (L.low g h);
+        kernels = λ g h. ap (λ (o : Option Owner). spec.owner_asid o) (L.low g h);
         in_ram = λ a q M r. ram_is a r.from q r.half M r.below r.leads;
         alone =
             λ a b q t M N r s e.

@@ -19,7 +19,7 @@ use Rattle.mills.proofs.Ways.{lo_dirty}
 -- a program has a page: a slot of its pair, and something in its half; dirty if the page is writable
 pub record There (p : Plan) (a page : ℕ) (w : Bool) : Type 0 where
   pub slot : ℕ
-  pub used : slot < p.room.used
+  pub used : slot < p.used
   pub is : hi p slot ≡ key a page
   pub some : lo p slot (page % 2) ≡ 0 → ⊥
   pub dirty : w ≡ true → dirty_of (lo p slot (page % 2)) ≡ true
@@ -52,7 +52,7 @@ module _ (may : ℕ → ℕ → Bool → Type 0) (k : ℕ) (p : Plan) (P : Plann
   half = omega arith
 
   -- in slot i a page of RAM is taken
-  module _ (i : ℕ) (A : At' i) (left : p.room.next < 16) (free : lo p i (page % 2) ≡ 0) where
+  module _ (i : ℕ) (A : At' i) (left : p.next < 16) (free : lo p i (page % 2) ≡ 0) where
     there : i < 48
     there = let m = A.inside in let h = P.used_next in omega arith
 
@@ -68,14 +68,14 @@ module _ (may : ℕ → ℕ → Bool → Type 0) (k : ℕ) (p : Plan) (P : Plann
         }
       where
         tlb' : List ℕ
-        tlb' = put p.tlb P.slots i (page % 2) (key a page) (lo_of p.room.next w) there half
+        tlb' = put p.tlb P.slots i (page % 2) (key a page) (lo_of p.next w) there half
 
         go : (T.slot ≡ i) ⊎ (T.slot ≡ i → ⊥) → get_or tlb' (T.slot * 4 + 1) 0 ≡ hi p T.slot
-        go (inr n) = hi_other p.tlb P.slots i (page % 2) (key a page) (lo_of p.room.next w) there half T.slot n
+        go (inr n) = hi_other p.tlb P.slots i (page % 2) (key a page) (lo_of p.next w) there half T.slot n
         go (inl e) =
-            let u : i < p.room.used = subst (λ (n : ℕ). n < p.room.used) e T.used in
+            let u : i < p.used = subst (λ (n : ℕ). n < p.used) e T.used in
             ap (λ (n : ℕ). get_or tlb' (n * 4 + 1) 0) e
-            ∙ hi_here p.tlb P.slots i (page % 2) (key a page) (lo_of p.room.next w) there half
+            ∙ hi_here p.tlb P.slots i (page % 2) (key a page) (lo_of p.next w) there half
             ∙ sym (A.old u)
             ∙ ap (λ (n : ℕ). hi p n) (sym e)
 
@@ -83,29 +83,29 @@ module _ (may : ℕ → ℕ → Bool → Type 0) (k : ℕ) (p : Plan) (P : Plann
         differs e = T.some (ap (λ (n : ℕ). get_or p.tlb n 0) e ∙ free)
 
         same : get_or tlb' (T.slot * 4 + 2 + other % 2) 0 ≡ lo p T.slot (other % 2)
-        same = lo_other p.tlb P.slots i (page % 2) (key a page) (lo_of p.room.next w) there half T.slot (other % 2) (omega arith) differs
+        same = lo_other p.tlb P.slots i (page % 2) (key a page) (lo_of p.next w) there half T.slot (other % 2) (omega arith) differs
 
     taken_there : There (taken p a page w i) a page w
     unfolding taken
     taken_there =
-        let y = lo_here p.tlb P.slots i (page % 2) (key a page) (lo_of p.room.next w) there half in
+        let y = lo_here p.tlb P.slots i (page % 2) (key a page) (lo_of p.next w) there half in
         record {
           slot = i;
           used = (used_more may k p P a page w a-some a_small page_small allowed i A).has;
-          is = hi_here p.tlb P.slots i (page % 2) (key a page) (lo_of p.room.next w) there half;
-          some = λ e. lo_some p.room.next w (sym y ∙ e);
-          dirty = λ e. ap (λ (n : ℕ). dirty_of n) y ∙ lo_dirty p.room.next w ∙ e;
+          is = hi_here p.tlb P.slots i (page % 2) (key a page) (lo_of p.next w) there half;
+          some = λ e. lo_some p.next w (sym y ∙ e);
+          dirty = λ e. ap (λ (n : ℕ). dirty_of n) y ∙ lo_dirty p.next w ∙ e;
         }
 
   -- slot i has the page
   module _ (i : ℕ) (A : At' i) (some : lo p i (page % 2) ≡ 0 → ⊥) where
-    inside : i < p.room.used
-    inside = go (ltb i p.room.used) refl
+    inside : i < p.used
+    inside = go (ltb i p.used) refl
       where
-        go : (b : Bool) → ltb i p.room.used ≡ b → i < p.room.used
+        go : (b : Bool) → ltb i p.used ≡ b → i < p.used
         go true e = ltb-true _ _ e
         go false e =
-            let m : p.room.used ≤ i = ltb-false _ _ e in
+            let m : p.used ≤ i = ltb-false _ _ e in
             let n = A.inside in
             let s = P.used_small in
             absurd (some (P.fresh_lo i (page % 2) m (omega arith) (omega arith)))
@@ -169,35 +169,35 @@ module _ (may : ℕ → ℕ → Bool → Type 0) (k : ℕ) (p : Plan) (P : Plann
   full_stays None e = cc
   full_stays (Some k) e = cc
 
-  full_taken : (i : ℕ) → (taken p a page w i).room.full ≡ None → p.room.full ≡ None
+  full_taken : (i : ℕ) → (taken p a page w i).full ≡ None → p.full ≡ None
   unfolding taken
   full_taken i e = e
 
-  full_again : (i : ℕ) → (again p page w i).room.full ≡ None → p.room.full ≡ None
+  full_again : (i : ℕ) → (again p page w i).full ≡ None → p.full ≡ None
   unfolding again
   full_again i e = e
 
-  full_crowded : (crowded p a).room.full ≡ None → ⊥
+  full_crowded : (crowded p a).full ≡ None → ⊥
   unfolding crowded
-  full_crowded e = full_stays p.room.full e
+  full_crowded e = full_stays p.full e
 
   -- what a page more leaves of all this
   pub record Added (q : Plan) : Type 0 where
     pub keeps : (b other : ℕ) (x : Bool) → There p b other x → There q b other x
-    pub makes : q.room.full ≡ None → There q a page w
-    pub before : q.room.full ≡ None → p.room.full ≡ None
+    pub makes : q.full ≡ None → There q a page w
+    pub before : q.full ≡ None → p.full ≡ None
 
   pub added : Added (add p a page w)
   unfolding add add_at
   added = go (eqb (lo p i (page % 2)) 0) refl
     where
       i : ℕ
-      i = find p.tlb (key a page) p.room.used 0
+      i = find p.tlb (key a page) p.used 0
 
       A : At' i
       A = at may k p P a page w a-some a_small page_small allowed
 
-      by_taken : p.room.next < 16 → lo p i (page % 2) ≡ 0 → Added (taken p a page w i)
+      by_taken : p.next < 16 → lo p i (page % 2) ≡ 0 → Added (taken p a page w i)
       by_taken left z = record { keeps = taken_keeps i A left z; makes = λ e. taken_there i A left z; before = λ e. full_taken i e }
 
       by_crowded : Added (crowded p a)
@@ -206,10 +206,10 @@ module _ (may : ℕ → ℕ → Bool → Type 0) (k : ℕ) (p : Plan) (P : Plann
       by_again : (lo p i (page % 2) ≡ 0 → ⊥) → Added (again p page w i)
       by_again n = record { keeps = again_keeps i A n; makes = λ e. again_there i A n; before = λ e. full_again i e }
 
-      left : (b : Bool) → ltb p.room.next 16 ≡ b → lo p i (page % 2) ≡ 0 → Added (pick b (taken p a page w i) (crowded p a))
+      left : (b : Bool) → ltb p.next 16 ≡ b → lo p i (page % 2) ≡ 0 → Added (pick b (taken p a page w i) (crowded p a))
       left true e z = by_taken (ltb-true _ _ e) z
       left false e z = by_crowded
 
-      go : (b : Bool) → eqb (lo p i (page % 2)) 0 ≡ b → Added (pick b (pick (ltb p.room.next 16) (taken p a page w i) (crowded p a)) (again p page w i))
-      go true e = left (ltb p.room.next 16) refl (eqb-true _ _ e)
+      go : (b : Bool) → eqb (lo p i (page % 2)) 0 ≡ b → Added (pick b (pick (ltb p.next 16) (taken p a page w i) (crowded p a)) (again p page w i))
+      go true e = left (ltb p.next 16) refl (eqb-true _ _ e)
       go false e = by_again (eqb-false _ _ e)

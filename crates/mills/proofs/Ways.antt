@@ -18,6 +18,7 @@ use Rattle.tlb.specs.Slot.{slot_at, valid_of, dirty_of}
 use Rattle.tlb.specs.Match.{Only, matches_at, hits, lookup}
 use Rattle.tlb.specs.Translate.{vaddr, paddr, odd_of, half_of, lo_of, physical, through, through_slot, through_found, mapped}
 use Rattle.tlb.proofs.Tells.{one_only}
+use Rattle.std.specs.Prelude.{Some, None}
 use Rattle.place.specs.Plan as P
 use Rattle.mills.proofs.Pages4K.{hits_only, fresh_hits, odd_is, physical_is}
 use Rattle.mills.proofs.Planned as planned
@@ -97,24 +98,24 @@ module _ {may : ℕ → ℕ → Bool → Type 0} {k : ℕ} (p : P.Plan) (L : Pla
 
   -- a slot that matches is one that is used, of this ASID and the address's pair
   pub record Matching (i a v : ℕ) : Type 0 where
-    pub used : i < p.room.used
+    pub used : i < p.used
     pub is : hi p i ≡ v / 8192 * 8192 + a
     pub small : a < 256
 
   pub matching : (i a v : ℕ) → i < 48 → v < 2 ^ 31 → matches_at p.tlb a (vaddr v) i ≡ true → Matching i a v
-  matching i a v h below e = go (ltb i p.room.used) refl
+  matching i a v h below e = go (ltb i p.used) refl
     where
       m : hits 19 0 (hi p i) a v ≡ true
       m = sym (matches_as i a v h) ∙ e
 
-      go : (b : Bool) → ltb i p.room.used ≡ b → Matching i a v
+      go : (b : Bool) → ltb i p.used ≡ b → Matching i a v
       go true t =
-          let u : i < p.room.used = ltb-true _ _ t in
+          let u : i < p.used = ltb-true _ _ t in
           let y = L.keyed i u in
           let o = hits_only y.pair y.asid a v y.pair_small y.asid_small below (subst (λ (x : ℕ). hits 19 0 x a v ≡ true) y.is m) in
           record { used = u; is = y.is ∙ rw (o.0, o.1) refl; small = subst (λ (x : ℕ). x < 256) o.1 y.asid_small }
       go false t =
-          let u : p.room.used ≤ i = ltb-false _ _ t in
+          let u : p.used ≤ i = ltb-false _ _ t in
           absurd (fresh_hits i a v h below (subst (λ (x : ℕ). hits 19 0 x a v ≡ true) (L.fresh_hi i u h) m))
 
   -- where an address leads: to the page of RAM that is its page's, after the first k, and writable as it may be
@@ -123,7 +124,7 @@ module _ {may : ℕ → ℕ → Bool → Type 0} {k : ℕ} (p : P.Plan) (L : Pla
     pub is : q ≡ frame * 4096 + v % 4096
     pub from : k ≤ frame
     pub small : frame < 16
-    pub owned : get_or p.pages frame 0 ≡ v / 4096 * 4096 + a
+    pub owned : get_or p.pages frame None ≡ Some (P.owner a (v / 4096))
     pub allowed : may a (v / 4096) dirty
 
   pub way : (a v q : ℕ) (half : Half) → v < 2 ^ 31 → mapped p.tlb a (vaddr v) ≡ Mapped (paddr q) half → Way a v q half.dirty
@@ -150,7 +151,7 @@ module _ {may : ℕ → ℕ → Bool → Type 0} {k : ℕ} (p : P.Plan) (L : Pla
       dirty : dirty_of (lo p s (v / 4096 % 2)) ≡ half.dirty
       dirty = sym (ap (λ (n : ℕ). dirty_of n) y) ∙ B.dirty
 
-      go : planned.Half may k p.room.next p.pages (hi p s) (lo p s (v / 4096 % 2)) (v / 4096 % 2) → Way a v q half.dirty
+      go : planned.Half may k p.next p.pages (hi p s) (lo p s (v / 4096 % 2)) (v / 4096 % 2) → Way a v q half.dirty
       go (inl e) = let z : valid_of 0 ≡ true = subst (λ (n : ℕ). valid_of n ≡ true) e valid in let c : ◌≡◌ {A = ℕ} 0 1 = cc in absurd (omega arith)
       go (inr h) =
           let n : hi p s / 8192 * 2 + v / 4096 % 2 ≡ v / 4096 = let z = M.is in let t = M.small in omega arith in

@@ -1,5 +1,5 @@
 -- What is promised of an image of programs, mill A's, mill B's, ..: the first runs in User mode, each has its own pages, and in them what its file says.
-use Rattle.std.specs.Prelude.{ℕ, ◌+◌, ◌/◌, ◌%◌, ◌^◌, ◌<◌, ◌≤◌, ◌≡◌, Bool, true, false, List, Ok, length, get_or, take}
+use Rattle.std.specs.Prelude.{ℕ, ◌+◌, ◌/◌, ◌^◌, ◌<◌, ◌≤◌, ◌≡◌, Bool, true, false, List, Option, Some, None, Ok, length, get_or, take}
 use Rattle.tlb.specs.declared.Half.{Half}
 use Rattle.tlb.specs.declared.Where.TheVariants.{Mapped}
 use Rattle.tlb.specs.Translate.{vaddr, paddr, mapped}
@@ -11,6 +11,7 @@ use Rattle.elf.specs.Home.{physical, stands, byte_of}
 use Rattle.elf.specs.Faults as E
 use Rattle.elf.specs.Faults.{file_fault}
 use Rattle.image.specs.Image.{image_of, ram_after}
+use Rattle.place.specs.declared.Owner.{Owner}
 use Rattle.place.specs.Plan.{kernel_pages, plan_of}
 use Rattle.place.specs.Made.{blank, text_of, made_of, out_after, zeros}
 use Rattle.isolation.specs.Reach.{Reached}
@@ -29,6 +30,11 @@ pub record Image (file : ℕ → List ℕ) (n : ℕ) (settings : List ℕ) : Typ
   pub long : ℕ
   pub made : made_of file n settings ≡ Ok long
 
+-- the ASID of an owner; 0 for nobody
+abbrev pub owner_asid : Option Owner → ℕ
+owner_asid None = 0
+owner_asid (Some o) = o.asid
+
 module _ (file : ℕ → List ℕ) (n : ℕ) (settings : List ℕ) where
   -- the machine that the card's reader makes of its text, and the RAM
   abbrev pub machine : Machine
@@ -39,7 +45,7 @@ module _ (file : ℕ → List ℕ) (n : ℕ) (settings : List ℕ) where
 
   -- it runs in User mode with CU0 clear under ASID 1, from a User address; the card accepts it with any boot ROM and interrupt lines that it accepts at all; the kernel has something to load, and code at both vectors; and this text is what is printed
   pub record Starts : Type 0 where
-    pub read : (image_of (text_of file n settings) zeros).number ≡ 0
+    pub read : (image_of (text_of file n settings) zeros).refusal ≡ None
     pub accepted : (rom : List ℕ) (lines : ℕ) → rom_fits (length rom) ≡ true → lines_fit lines ≡ true → UserWorld (record { machine = machine; ram = ram; rom = rom; lines = lines })
     pub first : asid machine ≡ 1
     pub from : machine.cpu.pc < 2 ^ 31
@@ -50,7 +56,7 @@ module _ (file : ℕ → List ℕ) (n : ℕ) (settings : List ℕ) where
 
   -- the ASID of the program whose page g of RAM is; 0 for the kernel's pages and for nobody's
   abbrev pub owner_of : ℕ → ℕ
-  owner_of g = get_or (plan_of file n).pages g 0 % 4096
+  owner_of g = owner_asid (get_or (plan_of file n).pages g None)
 
   -- every page that a program reaches is its own, after the kernel's, in RAM; so no two programs reach one page, and none reaches a page of the kernel's, which has all of its segments there
   pub record Apart : Type 0 where

@@ -4,17 +4,17 @@ use mathlib.Core.Bool.{Bool, true, false}
 use mathlib.Core.Bool as bool
 use mathlib.Core.Path.{◌≡◌, refl, sym, ap, ◌∙◌}
 use mathlib.Core.List.{List}
-use Rattle.std.specs.Prelude.{Option, Ok, Err}
+use Rattle.std.specs.Prelude.{Option, Some, None, Ok, Err}
 use native.Mathlib.Omega.{arith}
 use borrow.Author.Tests.{eq-eqb, ne_eqb, le-leb, lt-leb}
 use lib.Dec.{eqb}
 use lib.ListN.{length, take, drop}
 use lib.Seq.{sets, sets-eq, take-append_seam}
-use Rattle.elf.specs.Header.{count, entry}
+use Rattle.elf.specs.Header.{entry}
 use Rattle.elf.specs.declared.Pages.{Pages}
-use Rattle.elf.specs.declared.Space.TheVariants.{User, Kernel}
+use Rattle.elf.specs.declared.Space.TheVariants.{Kernel}
 use Rattle.elf.specs.Pages.{pages_at}
-use Rattle.elf.specs.Home.{stands}
+use Rattle.image.specs.declared.Refusal as image
 use Rattle.image.specs.declared.Image.{Image}
 use Rattle.image.specs.Image.{image_of, ram_after}
 use Rattle.answer.specs.Wrote.{Wrote}
@@ -22,27 +22,8 @@ use Rattle.answer.specs.Placed.{placed_text}
 use Rattle.promise.specs.Pick.{not}
 use Rattle.place.specs.declared.Difference.{Difference}
 use Rattle.place.specs.declared.Refusal.TheVariants.{TooLong, NoImage}
-use Rattle.place.specs.Plan.{Plan, add_pages, add_segment, add_segments, add_all, stack, add, add_program, top_of, top_from, kernel_pages}
-use Rattle.place.specs.Made.{Verdict, none, or, zeros, extended, starts, blank, undone, undone_refusal, read_refusal, text_made, written, text_answer, Answered}
-
--- a header's pages, one after the other
-pub segment_is : (p : Plan) (asid : ℕ) (file : List ℕ) (i : ℕ) (g : Pages) → g ≡ pages_at User file i → add_pages p asid g ≡ add_segment p asid file i
-unfolding add_segment
-segment_is p asid file i g e = ap (add_pages p asid) e
-
--- the segments' pages, and the stack's
-pub program_is : (p q : Plan) (asid : ℕ) (file : List ℕ) → q ≡ add_all p asid file → add q asid stack true ≡ add_program p asid file
-unfolding add_program
-program_is p q asid file e = ap (λ (r : Plan). add r asid stack true) e
-
--- all headers
-module _ (file : List ℕ) (n : ℕ) (e : n ≡ count file) where
-  pub all_segments : (p : Plan) (asid : ℕ) → add_segments p asid file n 0 ≡ add_all p asid file
-  all_segments p asid = ap (λ (k : ℕ). add_segments p asid file k 0) e
-
-  pub all_tops : top_from file n 0 0 ≡ kernel_pages file
-  unfolding kernel_pages
-  all_tops = ap (λ (k : ℕ). top_from file k 0 0) e
+use Rattle.place.specs.Plan.{top_of}
+use Rattle.place.specs.Made.{Verdict, none, or, zeros, extended, starts, undone, undone_refusal, read_refusal, text_made, written, text_answer, Answered}
 
 -- a kernel's header has pages, or it has none
 module _ (file : List ℕ) (i : ℕ) (g : Pages) (e : g ≡ pages_at Kernel file i) where
@@ -64,25 +45,20 @@ module _ (file : ℕ → List ℕ) (n : ℕ) where
   unfolding starts
   starts_first h = simp (ne_eqb _ _ h)
 
--- three bytes are 0, and the fourth is or is not
-pub blank_last : (file : List ℕ) (p a b c d : ℕ) → a ≡ stands Kernel file p → a ≡ 0 → b ≡ stands Kernel file (p + 1) → b ≡ 0 → c ≡ stands Kernel file (p + 2) → c ≡ 0 → d ≡ stands Kernel file (p + 3) → eqb d 0 ≡ blank file p
-unfolding blank
-blank_last file p a b c d ea za eb zb ec zc ed = simp (sym ea, sym eb, sym ec, sym ed, eq-eqb _ _ za, eq-eqb _ _ zb, eq-eqb _ _ zc)
-
 -- what the reader makes of a text
 module _ (text : List ℕ) (n : ℕ) (tlb ram : List ℕ) (i : Image) (e : i ≡ image_of text zeros) where
-  pub unread : (i.number ≡ 0 → ⊥) → Err (NoImage i.number) ≡ read_refusal text n tlb ram
+  pub read_not : (r : image.Refusal) → i.refusal ≡ Some r → Err (NoImage r.number) ≡ read_refusal text n tlb ram
   unfolding read_refusal
-  unread h = simp (sym e, ne_eqb _ _ h)
+  read_not r h = simp (sym e, h)
 
-  module _ (h : i.number ≡ 0) where
+  module _ (h : i.refusal ≡ None) where
     pub read_alone : n ≡ 0 → none ≡ read_refusal text n tlb ram
     unfolding read_refusal
-    read_alone z = simp (sym e, eq-eqb _ _ h, eq-eqb _ _ z)
+    read_alone z = simp (sym e, h, eq-eqb _ _ z)
 
     pub read_all : (n ≡ 0 → ⊥) → (held : List ℕ) → held ≡ ram_after text zeros → (what : Option Difference) → what ≡ undone i.machine held tlb ram → undone_refusal what ≡ read_refusal text n tlb ram
     unfolding read_refusal
-    read_all z held g what w = simp (sym e, eq-eqb _ _ h, ne_eqb _ _ z, sym g, w)
+    read_all z held g what w = simp (sym e, h, ne_eqb _ _ z, sym g, w)
 
 -- what is read back is the text
 pub reads_back : (out text : List ℕ) → length text ≤ length out → take (length text) (sets out 0 text) ≡ text

@@ -1,6 +1,5 @@
 -- The rulebook's images of programs: their files, the plan, the RAM, and the image or why there is none.
 pub mod Files
-pub mod Fits
 pub mod Plan
 pub mod Ram
 pub mod Made

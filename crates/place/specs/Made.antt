@@ -1,7 +1,9 @@
 -- The image of a kernel and programs, or why there is none.
-use Rattle.std.specs.Prelude.{ℕ, zero, suc, ◌+◌, ◌^◌, Bool, true, false, List, [], ◌∷◌, Option, Some, None, Result, Ok, Err, ◌≡◌, eqb, leb, ltb, length, replicate}
+use Rattle.std.specs.Prelude.{ℕ, zero, suc, ◌+◌, ◌^◌, Bool, nat_eq, List, Option, Some, None, Result, Ok, Err, ◌≡◌, eqb, leb, ltb, length, replicate}
+use Rattle.std.specs.List.{list_all, range_with_len}
+use Rattle.std.specs.Cmp.Lexicographic.{pointwise}
 use Rattle.std.proofs.lemmas.List.Edits.{sets}
-use Rattle.promise.specs.Pick.{pick, both, not}
+use Rattle.promise.specs.Pick.{pick, not}
 use Rattle.tlb.specs.Slot.{asid_of}
 use Rattle.cp0.specs.declared.Cp0.{Cp0}
 use Rattle.cp0.specs.Status.{CU0, user}
@@ -12,6 +14,7 @@ use Rattle.elf.specs.Header.{entry}
 use Rattle.elf.specs.Home.{stands}
 use Rattle.elf.specs.Faults as E
 use Rattle.elf.specs.Faults.{file_fault, program_fault}
+use Rattle.image.specs.declared.Refusal as image
 use Rattle.image.specs.Image.{image_of, ram_after}
 use Rattle.answer.specs.Placed.{placed_text}
 use Rattle.place.specs.declared.Difference.{Difference}
@@ -96,11 +99,9 @@ unfoldable pub programs_refusal : (ℕ → List ℕ) → ℕ → ℕ → Verdict
 programs_refusal file zero k = none
 programs_refusal file (suc left) k = or (program_refusal file k) (programs_refusal file left (k + 1))
 
--- the kernel's word at a physical address is 0 (L23)
+-- the kernel's word at a physical address is 0: each of its four bytes (L23)
 unfoldable pub blank : List ℕ → ℕ → Bool
-blank file p =
-    both (eqb (stands Kernel file p) 0)
-    (both (eqb (stands Kernel file (p + 1)) 0) (both (eqb (stands Kernel file (p + 2)) 0) (eqb (stands Kernel file (p + 3)) 0)))
+blank file p = list_all (λ q. eqb (stands Kernel file q) 0) (range_with_len p 4)
 
 -- no code at a vector: refill at 0, every other exception at 180 (L23)
 unfoldable pub vector_refusal : List ℕ → ℕ → Verdict
@@ -119,7 +120,7 @@ full_refusal file (Some k) = Err (NoRoom k (kernel_pages file))
 
 -- what is refused before a text is written
 unfoldable pub early : (ℕ → List ℕ) → ℕ → Verdict
-early file n = or (files_refusal file n) (full_refusal (file 0) (plan_of file n).room.full)
+early file n = or (files_refusal file n) (full_refusal (file 0) (plan_of file n).full)
 
 -- a word, sign-extended
 unfoldable pub extended : ℕ → ℕ
@@ -139,14 +140,11 @@ written tlb ram used n pc settings = placed_text tlb ram used (not (eqb n 0)) pc
 
 -- the text (L22)
 unfoldable pub text_of : (ℕ → List ℕ) → ℕ → List ℕ → List ℕ
-text_of file n settings = written (plan_of file n).tlb (ram_of file n) (plan_of file n).room.used n (starts file n) settings
+text_of file n settings = written (plan_of file n).tlb (ram_of file n) (plan_of file n).used n (starts file n) settings
 
 -- two lists hold the same numbers
-unfoldable pub same : List ℕ → List ℕ → Bool
-same [] [] = true
-same [] (y ∷ ys) = false
-same (x ∷ xs) [] = false
-same (x ∷ xs) (y ∷ ys) = both (eqb x y) (same xs ys)
+abbrev pub same : List ℕ → List ℕ → Bool
+same = pointwise nat_eq
 
 -- what a machine has otherwise than User mode with CU0 clear, ASID 1 and a PC below 80000000 (L27)
 unfoldable pub unlike : Cpu → Cp0 → Option Difference
@@ -163,6 +161,11 @@ undone m held tlb ram = pick (same m.tlb tlb) (pick (same held ram) (unlike m.cp
 abbrev pub zeros : List ℕ
 zeros = replicate 65536 0
 
+-- the reader refuses a text, or not (L26)
+abbrev pub unread : Option image.Refusal → Verdict
+unread None = none
+unread (Some r) = Err (NoImage r.number)
+
 -- SETTINGS undid it, or not
 abbrev pub undone_refusal : Option Difference → Verdict
 undone_refusal None = none
@@ -171,9 +174,8 @@ undone_refusal (Some d) = Err (Undone d)
 -- what is refused of a text by what the reader makes of it (L26, L27)
 unfoldable pub read_refusal : List ℕ → ℕ → List ℕ → List ℕ → Verdict
 read_refusal text n tlb ram =
-    pick (eqb (image_of text zeros).number 0)
+    or (unread (image_of text zeros).refusal)
     (pick (eqb n 0) none (undone_refusal (undone (image_of text zeros).machine (ram_after text zeros) tlb ram)))
-    (Err (NoImage (image_of text zeros).number))
 
 -- of a text, its length: longer than 65,536 bytes it is refused (L25)
 unfoldable pub text_made : List ℕ → ℕ → List ℕ → List ℕ → Result ℕ Refusal

@@ -1,5 +1,5 @@
 -- Which page of RAM each page of a program gets, and its slot and half of the TLB.
-use Rattle.std.specs.Prelude.{ℕ, zero, suc, ◌+◌, ◌*◌, ◌/◌, ◌%◌, Bool, true, List, Option, Some, None, eqb, leb, ltb, get_or, set, replicate}
+use Rattle.std.specs.Prelude.{ℕ, zero, suc, ◌+◌, ◌*◌, ◌/◌, ◌%◌, Bool, true, List, Option, Some, None, max, eqb, ltb, get_or, set, replicate}
 use Rattle.std.specs.Option.{option_or}
 use Rattle.promise.specs.Pick.{pick}
 use Rattle.card.specs.Machine.{fresh}
@@ -7,31 +7,27 @@ use Rattle.elf.specs.declared.Pages.{Pages}
 use Rattle.elf.specs.declared.Space.TheVariants.{User, Kernel}
 use Rattle.elf.specs.Header.{count}
 use Rattle.elf.specs.Pages.{pages_at}
-use Rattle.place.specs.declared.Room.{Room}
+use Rattle.place.specs.declared.Owner.{Owner}
 
 -- the pages of RAM
 abbrev pub ram_pages : ℕ
 ram_pages = 16
 
--- what is taken: slots and pages of RAM, the TLB, and of each page of RAM whose it is: the program's page × 4096 + its ASID, 0 for none
+-- what is taken: slots and pages of RAM; the first program for which there was no page; the TLB; and of each page of RAM whose it is
 pub record Plan : Type 0 where
-  pub room : Room
+  pub used : ℕ
+  pub next : ℕ
+  pub full : Option ℕ
   pub tlb : List ℕ
-  pub pages : List ℕ
-
-abbrev pub plan : Room → List ℕ → List ℕ → Plan
-plan r tlb pages = record { room = r; tlb = tlb; pages = pages }
-
-abbrev pub room : ℕ → ℕ → Option ℕ → Room
-room used next full = record { used = used; next = next; full = full }
+  pub pages : List (Option Owner)
 
 -- EntryHi of a page's pair under an ASID: never global (L21)
 abbrev pub key : ℕ → ℕ → ℕ
 key asid page = page / 2 * 8192 + asid
 
--- whose a page of RAM is
-abbrev pub owner : ℕ → ℕ → ℕ
-owner asid page = page * 4096 + asid
+-- whose a page of RAM is: the program's page, and its ASID
+abbrev pub owner : ℕ → ℕ → Owner
+owner asid page = record { page = page; asid = asid }
 
 -- where in the TLB a page's half of slot i stands
 abbrev pub lo_at : ℕ → ℕ → ℕ
@@ -61,29 +57,32 @@ first_full full asid = option_or full (Some asid)
 -- the next page of RAM is taken, and slot i is the page's pair's (L20, L21)
 unfoldable pub taken : Plan → ℕ → ℕ → Bool → ℕ → Plan
 taken p asid page writable i =
-    plan
-    (room (more p.room.used i) (p.room.next + 1) p.room.full)
-    (set (set p.tlb (i * 4 + 1) (key asid page)) (lo_at i page) (lo_of p.room.next writable))
-    (set p.pages p.room.next (owner asid page))
+    record {
+      used = more p.used i;
+      next = p.next + 1;
+      full = p.full;
+      tlb = set (set p.tlb (i * 4 + 1) (key asid page)) (lo_at i page) (lo_of p.next writable);
+      pages = set p.pages p.next (Some (owner asid page));
+    }
 
 -- there is no page of RAM left (L24)
 unfoldable pub crowded : Plan → ℕ → Plan
-crowded p asid = plan (room p.room.used p.room.next (first_full p.room.full asid)) p.tlb p.pages
+crowded p asid = record p { full = first_full p.full asid }
 
 -- the program has the page: in slot i
 unfoldable pub again : Plan → ℕ → Bool → ℕ → Plan
-again p page writable i = plan p.room (set p.tlb (lo_at i page) (granted (get_or p.tlb (lo_at i page) 0) writable)) p.pages
+again p page writable i = record p { tlb = set p.tlb (lo_at i page) (granted (get_or p.tlb (lo_at i page) 0) writable) }
 
 -- a page whose pair's slot is i (L20)
 unfoldable pub add_at : Plan → ℕ → ℕ → Bool → ℕ → Plan
 add_at p asid page writable i =
     pick (eqb (get_or p.tlb (lo_at i page) 0) 0)
-    (pick (ltb p.room.next ram_pages) (taken p asid page writable i) (crowded p asid))
+    (pick (ltb p.next ram_pages) (taken p asid page writable i) (crowded p asid))
     (again p page writable i)
 
 -- a page of a program (L20)
 unfoldable pub add : Plan → ℕ → ℕ → Bool → Plan
-add p asid page writable = add_at p asid page writable (find p.tlb (key asid page) p.room.used 0)
+add p asid page writable = add_at p asid page writable (find p.tlb (key asid page) p.used 0)
 
 -- n pages in order
 unfoldable pub add_run : Plan → ℕ → ℕ → Bool → ℕ → Plan
@@ -120,10 +119,6 @@ unfoldable pub add_programs : Plan → (ℕ → List ℕ) → ℕ → ℕ → Pl
 add_programs p file zero k = p
 add_programs p file (suc left) k = add_programs (add_program p k (file k)) file left (k + 1)
 
--- the higher of two numbers
-abbrev pub higher : ℕ → ℕ → ℕ
-higher a b = pick (leb a b) b a
-
 -- where a segment's pages end; 0 where there are none
 abbrev pub top_of_pages : Pages → ℕ
 top_of_pages g = pick (eqb g.count 0) 0 (g.first + g.count)
@@ -135,15 +130,15 @@ top_of file i = top_of_pages (pages_at Kernel file i)
 -- the kernel's pages: up to the last that a segment touches, of `left` headers from header i on, at least `top` (L19)
 unfoldable pub top_from : List ℕ → ℕ → ℕ → ℕ → ℕ
 top_from file zero i top = top
-top_from file (suc left) i top = top_from file left (i + 1) (higher top (top_of file i))
+top_from file (suc left) i top = top_from file left (i + 1) (max top (top_of file i))
 
 unfoldable pub kernel_pages : List ℕ → ℕ
 kernel_pages file = top_from file (count file) 0 0
 
--- nothing but the kernel's pages is taken
-unfoldable pub begun : List ℕ → Plan
-begun file = plan (room 0 (kernel_pages file) None) fresh.tlb (replicate ram_pages 0)
+-- a kernel's pages are taken, and nothing else
+unfoldable pub begun : ℕ → Plan
+begun kernel = record { used = 0; next = kernel; full = None; tlb = fresh.tlb; pages = replicate ram_pages None }
 
 -- the plan of a kernel and n programs (L19 to L21)
 unfoldable pub plan_of : (ℕ → List ℕ) → ℕ → Plan
-plan_of file n = add_programs (begun (file 0)) file n 1
+plan_of file n = add_programs (begun (kernel_pages (file 0))) file n 1

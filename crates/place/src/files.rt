@@ -2,37 +2,34 @@
 ghost use Rattle.std.specs.Prelude.{◌≡◌};
 ghost use Rattle.place.specs.Files as F;
 
-// Where file k begins.
-fn start(ends: &[usize], k: usize) -> usize
-    ensures { result ≡ F.start ends.now k }
-{
-    if k == 0 {
-        return 0;
-    }
-    end(ends, k - 1)
+// Their bytes, and where each ends.
+#[derive(Clone, Copy)]
+pub(crate) struct Files<'a> {
+    pub(crate) bytes: &'a [u8],
+    pub(crate) ends: &'a [usize; 8],
 }
 
-// Where it ends.
-fn end(ends: &[usize], k: usize) -> usize
-    ensures { result ≡ F.end ends.now k }
-{
-    if ends.len() <= k {
-        return 0;
+impl<'a> Files<'a> {
+    // Where file k ends.
+    fn end(self, k: usize) -> usize
+        ensures { result ≡ F.end self.entry.ends.now k }
+    {
+        let ends = self.ends;
+        ends.get(k).copied().unwrap_or(0)
     }
-    ends[k]
-}
 
-// File k.
-pub(crate) fn file_at<'a>(files: &'a [u8], ends: &[usize; 8], k: usize) -> &'a [u8]
-    ensures { result.now ≡ F.file_at files.now ends.now k }
-{
-    let a = start(ends, k);
-    let e = end(ends, k);
-    if e < a {
-        return &files[0..0];
+    // Where it begins.
+    fn start(self, k: usize) -> usize
+        ensures { result ≡ F.start self.entry.ends.now k }
+    {
+        if k == 0 { 0 } else { self.end(k - 1) }
     }
-    if files.len() < e {
-        return &files[0..0];
+
+    // File k; nothing where the ends are not in order or past the slice.
+    pub(crate) fn file(self, k: usize) -> &'a [u8]
+        ensures { result.now ≡ F.file_of self.entry k }
+    {
+        let bytes = self.bytes;
+        bytes.get(self.start(k)..self.end(k)).unwrap_or(&[])
     }
-    &files[a..e]
 }

@@ -11,12 +11,11 @@ use elf::Fault;
 pub use making::image_text;
 pub use refusals::same_bytes;
 
-// What is taken: slots, pages of RAM; and the first program for which there was no page.
+// Whose a page of RAM is: the program's page, and the program's ASID.
 #[derive(Clone, Copy)]
-pub struct Room {
-    pub used: usize,
-    pub next: usize,
-    pub full: Option<usize>,
+pub struct Owner {
+    pub page: u32,
+    pub asid: usize,
 }
 
 // What a machine has otherwise than what was placed, or than a User program is to start with.

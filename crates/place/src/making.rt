@@ -4,11 +4,11 @@ ghost use Rattle.std.proofs.lemmas.List.Edits.{sets};
 ghost use Rattle.place.specs.Files as F;
 ghost use Rattle.place.specs.Made as M;
 
-use crate::files::file_at;
-use crate::plan::{add_programs, kernel_pages};
+use crate::Refusal;
+use crate::files::Files;
+use crate::plan::{Plan, kernel_pages};
 use crate::ram::fill;
 use crate::refusals::{files_refusal, undone};
-use crate::{Refusal, Room};
 
 // A word, sign-extended.
 fn extended(v: usize) -> u64
@@ -22,11 +22,11 @@ fn extended(v: usize) -> u64
 }
 
 // The entry point of the first program, sign-extended.
-fn starts(files: &[u8], ends: &[usize; 8], n: u8) -> u64
-    ensures { result ≡ M.starts (F.file_at files.now ends.now) n }
+fn starts(files: Files, n: u8) -> u64
+    ensures { result ≡ M.starts (F.file_of files.entry) n }
 {
     let first = if n == 0 { 0 } else { 1 };
-    extended(elf::entry(file_at(files, ends, first)))
+    extended(elf::entry(files.file(first)))
 }
 
 // What is refused of a text by itself and by what it makes.
@@ -34,15 +34,14 @@ fn late(text: &[u8], n: u8, tlb: &[u64; 192], ram: &[u8]) -> Result<(), Refusal>
     ensures { result ≡ M.read_refusal text.now n tlb.now ram.now }
 {
     let mut held = [0u8; 65536];
-    let i = image::read_image(text, &mut held);
-    if i.number != 0 {
-        return Err(Refusal::NoImage(i.number));
+    let image = image::read_image(text, &mut held);
+    if let Some(r) = image.refusal {
+        return Err(Refusal::NoImage(r.number));
     }
     if n == 0 {
         return Ok(());
     }
-    let m = i.machine;
-    match undone(m.cpu, m.cp0, &m.regs, &m.tlb, &held, tlb, ram) {
+    match undone(&image.machine, &held, tlb, ram) {
         Some(d) => Err(Refusal::Undone(d)),
         None => Ok(()),
     }
@@ -79,21 +78,16 @@ pub fn image_text(
 ) -> Result<usize, Refusal>
     ensures { M.Answered result out.new (M.made_of (F.file_at files.now ends.now) n settings.now) (M.out_after (F.file_at files.now ends.now) n settings.now out.old) }
 {
-    files_refusal(files, ends, n)?;
-    let kernel = kernel_pages(file_at(files, ends, 0));
-    let mut tlb = card::fresh().tlb;
-    let mut pages = [0u64; 16];
-    let begun = Room {
-        used: 0,
-        next: kernel,
-        full: None,
-    };
-    let room = add_programs(&mut tlb, &mut pages, begun, files, ends, n);
-    if let Some(k) = room.full {
+    let files = Files { bytes: files, ends };
+    files_refusal(files, n)?;
+    let kernel = kernel_pages(files.file(0));
+    let mut plan = Plan::begun(kernel);
+    plan.add_programs(files, n);
+    if let Some(k) = plan.full {
         return Err(Refusal::NoRoom(k, kernel));
     }
     let mut ram = [0u8; 65536];
-    fill(files, ends, kernel, &pages, &mut ram);
-    let pc = starts(files, ends, n);
-    text_of(&ram, &tlb, room.used as u8, n, pc, settings, &mut *out)
+    fill(files, kernel, &plan.pages, &mut ram);
+    let pc = starts(files, n);
+    text_of(&ram, &plan.tlb, plan.used as u8, n, pc, settings, &mut *out)
 }

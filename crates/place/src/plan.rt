@@ -1,15 +1,37 @@
 // Which page of RAM each page of a program gets, and its slot and half of the TLB.
 ghost use Rattle.std.specs.Prelude.{◌+◌, ◌≤◌, ◌<◌, ◌^◌, ◌≡◌};
 ghost use Rattle.place.specs.Files as F;
-ghost use Rattle.place.specs.Fits.{Fits};
 ghost use Rattle.place.specs.Plan as P;
 
-use crate::Room;
-use crate::files::file_at;
+use crate::Owner;
+use crate::files::Files;
 use elf::Space;
+use std::marker::Model;
 
 // The pages of RAM.
 const RAM_PAGES: usize = 16;
+
+// What is taken: slots, pages of RAM; the first program for which there was no page; the TLB, and whose each page of RAM is.
+#[derive(Drop)]
+pub(crate) struct Plan {
+    pub(crate) used: usize,
+    pub(crate) next: usize,
+    pub(crate) full: Option<usize>,
+    pub(crate) tlb: [u64; 192],
+    pub(crate) pages: [Option<Owner>; 16],
+}
+
+// No more slots than pages are taken, and no more than 16.
+impl Model for Plan {
+    ghost use Rattle.std.specs.Prelude.{◌≤◌};
+    ghost use Rattle.place.specs.Plan as P;
+
+    ghost Value = { P.Plan };
+
+    ghost view = { λ p. record { used = p.used; next = p.next; full = p.full; tlb = p.tlb; pages = p.pages } };
+
+    ghost invariant = { λ p. (p.used ≤ 16) × (p.used ≤ p.next) };
+}
 
 // EntryLo of a page of RAM.
 fn lo_of(next: usize, writable: bool) -> u64
@@ -26,10 +48,7 @@ fn lo_of(next: usize, writable: bool) -> u64
 fn granted(lo: u64, writable: bool) -> u64
     ensures { result ≡ P.granted lo writable }
 {
-    if writable {
-        return lo / 8 * 8 + 6;
-    }
-    lo
+    if writable { lo / 8 * 8 + 6 } else { lo }
 }
 
 // The first slot with this EntryHi, of those used; one past them where there is none.
@@ -37,16 +56,12 @@ fn find(tlb: &[u64; 192], hi: u64, used: usize) -> usize
     requires { used ≤ 16 }
     ensures { (result ≡ P.find tlb.now hi used 0) × (result ≤ used) }
 {
-    let mut left = used;
-    let mut i = 0;
-    while 0 < left {
+    for i in 0..used {
         if tlb[i * 4 + 1] == hi {
             return i;
         }
-        i += 1;
-        left -= 1;
     }
-    i
+    used
 }
 
 // The slots used, once slot i is.
@@ -54,187 +69,106 @@ fn more(used: usize, i: usize) -> usize
     requires { i ≤ 16 }
     ensures { result ≡ P.more used i }
 {
-    if i == used {
-        return i + 1;
-    }
-    used
+    if i == used { i + 1 } else { used }
 }
 
-// The next page of RAM is taken.
-fn take(
-    tlb: &mut [u64; 192],
-    pages: &mut [u64; 16],
-    room: Room,
-    asid: usize,
-    page: usize,
-    writable: bool,
-    i: usize,
-) -> Room
-    requires { (i ≤ room.used) × ((room.next < 16) × ((asid < 4096) × ((page < 2 ^ 23) × Fits room))) }
-    ensures { (P.plan result tlb.new pages.new ≡ P.taken (P.plan room tlb.old pages.old) asid page writable i) × Fits result }
-{
-    let used = room.used;
-    let next = room.next;
-    let full = room.full;
-    let hi = (page / 2 * 8192 + asid) as u64;
-    let own = (page * 4096 + asid) as u64;
-    let at = i * 4 + 2 + page % 2;
-    let lo = lo_of(next, writable);
-    tlb[i * 4 + 1] = hi;
-    tlb[at] = lo;
-    pages[next] = own;
-    Room {
-        used: more(used, i),
-        next: next + 1,
-        full,
+impl Plan {
+    // A kernel's pages are taken, and nothing else.
+    pub(crate) fn begun(kernel: usize) -> Plan
+        ensures { result ≡ P.begun kernel }
+    {
+        let tlb = card::fresh().tlb;
+        let pages = [None; 16];
+        Plan {
+            used: 0,
+            next: kernel,
+            full: None,
+            tlb,
+            pages,
+        }
     }
-}
 
-// A page of a program.
-fn add(
-    tlb: &mut [u64; 192],
-    pages: &mut [u64; 16],
-    room: Room,
-    asid: usize,
-    page: usize,
-    writable: bool,
-) -> Room
-    requires { (asid < 4096) × ((page < 2 ^ 23) × Fits room) }
-    ensures { (P.plan result tlb.new pages.new ≡ P.add (P.plan room tlb.old pages.old) asid page writable) × Fits result }
-{
-    let used = room.used;
-    let next = room.next;
-    let full = room.full;
-    let hi = (page / 2 * 8192 + asid) as u64;
-    let i = find(&*tlb, hi, used);
-    let at = i * 4 + 2 + page % 2;
-    let lo = tlb[at];
-    if lo != 0 {
-        tlb[at] = granted(lo, writable);
-        return Room { used, next, full };
+    // The next page of RAM is taken.
+    fn take(&mut self, asid: usize, page: usize, writable: bool, i: usize)
+        requires { (i ≤ self.old.used) × ((self.old.next < 16) × ((asid < 4096) × (page < 2 ^ 23))) }
+        ensures { self.new ≡ P.taken self.old asid page writable i }
+    {
+        let next = self.next;
+        let used = more(self.used, i);
+        self.tlb[i * 4 + 1] = (page / 2 * 8192 + asid) as u64;
+        self.tlb[i * 4 + 2 + page % 2] = lo_of(next, writable);
+        self.pages[next] = Some(Owner {
+            page: page as u32,
+            asid,
+        });
+        self.used = used;
+        self.next = next + 1;
     }
-    if RAM_PAGES <= next {
-        return Room {
-            used,
-            next,
-            full: full.or(Some(asid)),
-        };
+
+    // A page of a program.
+    fn add(&mut self, asid: usize, page: usize, writable: bool)
+        requires { (asid < 4096) × (page < 2 ^ 23) }
+        ensures { self.new ≡ P.add self.old asid page writable }
+    {
+        let hi = (page / 2 * 8192 + asid) as u64;
+        let i = find(&self.tlb, hi, self.used);
+        let at = i * 4 + 2 + page % 2;
+        let lo = self.tlb[at];
+        if lo != 0 {
+            self.tlb[at] = granted(lo, writable);
+        } else if self.next < RAM_PAGES {
+            self.take(asid, page, writable, i);
+        } else {
+            self.full = self.full.or(Some(asid));
+        }
     }
-    take(&mut *tlb, &mut *pages, room, asid, page, writable, i)
-}
 
-// So many pages in order.
-fn add_run(
-    tlb: &mut [u64; 192],
-    pages: &mut [u64; 16],
-    room: Room,
-    asid: usize,
-    from: usize,
-    writable: bool,
-    n: usize,
-) -> Room
-    requires { (asid < 4096) × ((from + n ≤ 2 ^ 22) × Fits room) }
-    ensures { (P.plan result tlb.new pages.new ≡ P.add_run (P.plan room tlb.old pages.old) asid from writable n) × Fits result }
-{
-    let mut now = room;
-    let mut page = from;
-    let mut left = n;
-    while 0 < left {
-        now = add(&mut *tlb, &mut *pages, now, asid, page, writable);
-        page += 1;
-        left -= 1;
+    // So many pages in order.
+    fn add_run(&mut self, asid: usize, from: usize, writable: bool, n: usize)
+        requires { (asid < 4096) × (from + n ≤ 2 ^ 22) }
+        ensures { self.new ≡ P.add_run self.old asid from writable n }
+    {
+        for page in from..from + n {
+            self.add(asid, page, writable);
+        }
     }
-    now
-}
 
-// The pages of header i of a program.
-fn add_segment(
-    tlb: &mut [u64; 192],
-    pages: &mut [u64; 16],
-    room: Room,
-    asid: usize,
-    file: &[u8],
-    i: usize,
-) -> Room
-    requires { (asid < 4096) × Fits room }
-    ensures { (P.plan result tlb.new pages.new ≡ P.add_segment (P.plan room tlb.old pages.old) asid file.now i) × Fits result }
-{
-    let g = elf::pages_at(Space::User, file, i);
-    let first = g.first;
-    let count = g.count;
-    let writable = g.writable;
-    add_run(&mut *tlb, &mut *pages, room, asid, first, writable, count)
-}
-
-// The pages of a program's segments.
-fn add_segments(
-    tlb: &mut [u64; 192],
-    pages: &mut [u64; 16],
-    room: Room,
-    asid: usize,
-    file: &[u8],
-) -> Room
-    requires { (asid < 4096) × Fits room }
-    ensures { (P.plan result tlb.new pages.new ≡ P.add_all (P.plan room tlb.old pages.old) asid file.now) × Fits result }
-{
-    let mut now = room;
-    let mut i = 0;
-    let mut left = elf::count(file);
-    while 0 < left {
-        now = add_segment(&mut *tlb, &mut *pages, now, asid, file, i);
-        i += 1;
-        left -= 1;
+    // The pages of header i of a program.
+    fn add_segment(&mut self, asid: usize, file: &[u8], i: usize)
+        requires { asid < 4096 }
+        ensures { self.new ≡ P.add_segment self.old asid file.now i }
+    {
+        let g = elf::pages_at(Space::User, file, i);
+        self.add_run(asid, g.first, g.writable, g.count);
     }
-    now
-}
 
-// A program's pages, and its stack's.
-fn add_program(
-    tlb: &mut [u64; 192],
-    pages: &mut [u64; 16],
-    room: Room,
-    asid: usize,
-    file: &[u8],
-) -> Room
-    requires { (asid < 4096) × Fits room }
-    ensures { (P.plan result tlb.new pages.new ≡ P.add_program (P.plan room tlb.old pages.old) asid file.now) × Fits result }
-{
-    let segments = add_segments(&mut *tlb, &mut *pages, room, asid, file);
-    add(&mut *tlb, &mut *pages, segments, asid, 0x7ffff, true)
-}
-
-// The programs' pages, from program 1 on.
-pub(crate) fn add_programs(
-    tlb: &mut [u64; 192],
-    pages: &mut [u64; 16],
-    room: Room,
-    files: &[u8],
-    ends: &[usize; 8],
-    n: u8,
-) -> Room
-    requires { Fits room }
-    ensures { (P.plan result tlb.new pages.new ≡ P.add_programs (P.plan room tlb.old pages.old) (F.file_at files.now ends.now) n 1) × Fits result }
-{
-    let mut now = room;
-    let mut k: usize = 1;
-    let mut left = n;
-    while 0 < left {
-        let file = file_at(files, ends, k);
-        now = add_program(&mut *tlb, &mut *pages, now, k, file);
-        k += 1;
-        left -= 1;
+    // The pages of a program's segments.
+    fn add_segments(&mut self, asid: usize, file: &[u8])
+        requires { asid < 4096 }
+        ensures { self.new ≡ P.add_all self.old asid file.now }
+    {
+        for i in 0..elf::count(file) {
+            self.add_segment(asid, file, i);
+        }
     }
-    now
-}
 
-// The higher of two numbers.
-fn higher(a: usize, b: usize) -> usize
-    ensures { result ≡ P.higher a b }
-{
-    if a <= b {
-        return b;
+    // A program's pages, and its stack's.
+    fn add_program(&mut self, asid: usize, file: &[u8])
+        requires { asid < 4096 }
+        ensures { self.new ≡ P.add_program self.old asid file.now }
+    {
+        self.add_segments(asid, file);
+        self.add(asid, 0x7ffff, true);
     }
-    a
+
+    // The programs' pages, from program 1 on.
+    pub(crate) fn add_programs(&mut self, files: Files, n: u8)
+        ensures { self.new ≡ P.add_programs self.old (F.file_of files.entry) n 1 }
+    {
+        for k in 1..n as usize + 1 {
+            self.add_program(k, files.file(k));
+        }
+    }
 }
 
 // Where the pages of header i of a kernel end; 0 where it has none.
@@ -242,12 +176,7 @@ fn top_of(file: &[u8], i: usize) -> usize
     ensures { (result ≡ P.top_of file.now i) × (result ≤ 2 ^ 22) }
 {
     let g = elf::pages_at(Space::Kernel, file, i);
-    let first = g.first;
-    let count = g.count;
-    if count == 0 {
-        return 0;
-    }
-    first + count
+    if g.count == 0 { 0 } else { g.first + g.count }
 }
 
 // The kernel's pages.
@@ -255,12 +184,8 @@ pub(crate) fn kernel_pages(file: &[u8]) -> usize
     ensures { result ≡ P.kernel_pages file.now }
 {
     let mut top = 0;
-    let mut i = 0;
-    let mut left = elf::count(file);
-    while 0 < left {
-        top = higher(top, top_of(file, i));
-        i += 1;
-        left -= 1;
+    for i in 0..elf::count(file) {
+        top = top.max(top_of(file, i));
     }
     top
 }

@@ -1,11 +1,11 @@
 // Why there is no image.
 ghost use Rattle.std.specs.Prelude.{◌+◌, ◌≤◌, ◌<◌, ◌≡◌};
-ghost use Rattle.card.specs.Machine.{machine};
 ghost use Rattle.place.specs.Files as F;
 ghost use Rattle.place.specs.Made as M;
 
-use crate::files::file_at;
+use crate::files::Files;
 use crate::{Difference, Refusal};
+use card::Machine;
 use cp0::Cp0;
 use effect::Cpu;
 use elf::{Fault, Space};
@@ -86,18 +86,18 @@ fn kernel_refusal(file: &[u8], n: u8) -> Result<(), Refusal>
 }
 
 // The fault of program k.
-fn program_refusal(files: &[u8], ends: &[usize; 8], k: usize) -> Result<(), Refusal>
-    ensures { result ≡ M.program_refusal (F.file_at files.now ends.now) k }
+fn program_refusal(files: Files, k: usize) -> Result<(), Refusal>
+    ensures { result ≡ M.program_refusal (F.file_of files.entry) k }
 {
-    of_file(k, elf::program_fault(Space::User, file_at(files, ends, k)))
+    of_file(k, elf::program_fault(Space::User, files.file(k)))
 }
 
 // The first fault of the programs.
-fn programs_refusal(files: &[u8], ends: &[usize; 8], n: u8) -> Result<(), Refusal>
-    ensures { result ≡ M.programs_refusal (F.file_at files.now ends.now) n 1 }
+fn programs_refusal(files: Files, n: u8) -> Result<(), Refusal>
+    ensures { result ≡ M.programs_refusal (F.file_of files.entry) n 1 }
 {
     for k in 1..n as usize + 1 {
-        program_refusal(files, ends, k)?;
+        program_refusal(files, k)?;
     }
     Ok(())
 }
@@ -107,16 +107,7 @@ fn blank(file: &[u8], p: usize) -> bool
     requires { p ≤ 65536 }
     ensures { result ≡ M.blank file.now p }
 {
-    if elf::stands(Space::Kernel, file, p) != 0 {
-        return false;
-    }
-    if elf::stands(Space::Kernel, file, p + 1) != 0 {
-        return false;
-    }
-    if elf::stands(Space::Kernel, file, p + 2) != 0 {
-        return false;
-    }
-    elf::stands(Space::Kernel, file, p + 3) == 0
+    (p..p + 4).all(|q| elf::stands(Space::Kernel, file, q) == 0)
 }
 
 // No code at a vector.
@@ -136,47 +127,20 @@ fn vector_refusal(file: &[u8], n: u8) -> Result<(), Refusal>
 }
 
 // What is refused of the files by themselves.
-pub(crate) fn files_refusal(files: &[u8], ends: &[usize; 8], n: u8) -> Result<(), Refusal>
-    ensures { result ≡ M.files_refusal (F.file_at files.now ends.now) n }
+pub(crate) fn files_refusal(files: Files, n: u8) -> Result<(), Refusal>
+    ensures { result ≡ M.files_refusal (F.file_of files.entry) n }
 {
-    let kernel = file_at(files, ends, 0);
+    let kernel = files.file(0);
     kernel_refusal(kernel, n)?;
-    programs_refusal(files, ends, n)?;
+    programs_refusal(files, n)?;
     vector_refusal(kernel, n)
-}
-
-// Whether two TLBs hold the same numbers.
-fn same_slots(a: &[u64], b: &[u64]) -> bool
-    ensures { result ≡ M.same a.now b.now }
-{
-    if a.len() != b.len() {
-        return false;
-    }
-    let mut i = 0;
-    while i < a.len() {
-        if a[i] != b[i] {
-            return false;
-        }
-        i += 1;
-    }
-    true
 }
 
 // Whether two memories hold the same bytes.
 pub fn same_bytes(a: &[u8], b: &[u8]) -> bool
     ensures { result ≡ M.same a.now b.now }
 {
-    if a.len() != b.len() {
-        return false;
-    }
-    let mut i = 0;
-    while i < a.len() {
-        if a[i] != b[i] {
-            return false;
-        }
-        i += 1;
-    }
-    true
+    a == b
 }
 
 // What a machine has otherwise than User mode with CU0 clear, ASID 1 and a User PC.
@@ -199,22 +163,14 @@ fn unlike(cpu: Cpu, cp0: Cp0) -> Option<Difference>
 }
 
 // What a machine and its RAM have otherwise than was placed.
-pub(crate) fn undone(
-    cpu: Cpu,
-    cp0: Cp0,
-    regs: &[u64; 32],
-    slots: &[u64; 192],
-    held: &[u8],
-    tlb: &[u64; 192],
-    ram: &[u8],
-) -> Option<Difference>
-    ensures { result ≡ M.undone (machine cpu cp0 regs.now slots.now) held.now tlb.now ram.now }
+pub(crate) fn undone(m: &Machine, held: &[u8], tlb: &[u64; 192], ram: &[u8]) -> Option<Difference>
+    ensures { result ≡ M.undone m.now held.now tlb.now ram.now }
 {
-    if !same_slots(slots, tlb) {
+    if m.tlb != *tlb {
         return Some(Difference::Slots);
     }
-    if !same_bytes(held, ram) {
+    if held != ram {
         return Some(Difference::Bytes);
     }
-    unlike(cpu, cp0)
+    unlike(m.cpu, m.cp0)
 }

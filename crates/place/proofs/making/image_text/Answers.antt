@@ -14,11 +14,11 @@ returns-in_err-files_refusal c =
 
 pub returns-in-Some : goal.returns-in-Some
 returns-in-Some c =
-    let kernel = (c.kernel_pages-kernel.ensures ∙ ap kernel_pages c.file_at.ensures) in
-    full_refused _ _ _ _ _ c.in_ok-files_refusal.ensures _ (c.add_programs-room.ensures.0 ∙ plan_is _ _ _ kernel _ c.fresh.ensures) _ c.in-Some.is _ kernel
+    let kernel = (c.kernel_pages-kernel.ensures ∙ ap kernel_pages c.file.ensures) in
+    full_refused _ _ _ _ _ c.in_ok-files_refusal.ensures _ (c.plan.view_is ∙ plan_is _ _ _ kernel _ _ c.begun-plan.ensures c.add_programs.ensures) _ c.in-Some.is _ kernel
 
 pub returns : goal.returns
 returns c =
-    let kernel = (c.kernel_pages-kernel.ensures ∙ ap kernel_pages c.file_at.ensures) in
-    let placed = c.add_programs-room.ensures.0 ∙ plan_is _ _ _ kernel _ c.fresh.ensures in
+    let kernel = (c.kernel_pages-kernel.ensures ∙ ap kernel_pages c.file.ensures) in
+    let placed = c.plan.view_is ∙ plan_is _ _ _ kernel _ _ c.begun-plan.ensures c.add_programs.ensures in
     text_made_lem _ _ _ _ _ c.in_ok-files_refusal.ensures _ placed (not_some _ c.in_default.not-Some) _ (c.fill.ensures ∙ ram_is _ _ _ kernel _ placed _ (length-replicate {A = ℕ} 65536 0)) _ c.starts-pc.ensures _ _ c.text_of.ensures

@@ -8,5 +8,5 @@ use Rattle.place.proofs.making.starts.Goals.{then-n-eq0, else-n-eq0}
 
 pub returns : goal.returns
 returns c =
-    c.extended.ensures ∙ ap extended (c.entry.ensures.0 ∙ ap entry c.file_at.ensures)
+    c.extended.ensures ∙ ap extended (c.entry.ensures.0 ∙ ap entry c.file.ensures)
     ∙ elim c.if-n-eq0.branch [ then-n-eq0 w ↦ rw w.first-is (starts_alone _ _ w.if-n-eq0.true) | else-n-eq0 w ↦ rw w.first-is (starts_first _ _ w.if-n-eq0.false) ]

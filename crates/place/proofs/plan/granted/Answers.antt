@@ -6,6 +6,6 @@ pub returns-then-writable : goal.returns-then-writable
 unfolding granted
 returns-then-writable c = simp c.if-writable.true
 
-pub returns : goal.returns
+pub returns-else-writable : goal.returns-else-writable
 unfolding granted
-returns c = simp c.if-writable.false
+returns-else-writable c = simp c.if-writable.false

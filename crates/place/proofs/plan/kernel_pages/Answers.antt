@@ -1,14 +1,13 @@
-use native.Mathlib.Omega.{arith}
+-- The headers in their order.
 use mathlib.Core.Path.{sym, ◌∙◌}
-use Rattle.place.proofs.Texts.{all_tops}
+use Rattle.place.specs.Plan.{kernel_pages}
+use Rattle.place.proofs.Lists.{max_is}
 use Rattle.place.proofs.Turns.{top_next, top_done}
 use Rattle.place.proofs.plan.kernel_pages.Goals as goal
 
-pub loop-left-init : goal.loop-left-init
-loop-left-init c = (omega arith, all_tops _ _ c.count-left.ensures.0)
-
-pub loop-left-preserved : goal.loop-left-preserved
-loop-left-preserved c = (omega arith, sym (top_next _ _ _ _ _ _ c.top_of.ensures.0 c.higher-top.ensures c.loop-left-test.true) ∙ c.loop-left.invariant.1)
+pub loop-i-preserved : goal.loop-i-preserved
+loop-i-preserved c = c.loop-i.invariant ∙ top_next _ _ _ c.loop-i.top _ c.top_of.ensures.0 _ (c.max-top.ensures ∙ max_is _ _) c.loop-i-test.true
 
 pub returns : goal.returns
-returns c = sym (top_done _ _ _ _ c.loop-left-test.false) ∙ c.loop-left.invariant.1
+unfolding kernel_pages
+returns c = sym (c.loop-i.invariant ∙ top_done _ _ _ _ c.loop-i-test.false)

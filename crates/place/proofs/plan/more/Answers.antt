@@ -7,6 +7,6 @@ pub returns-then-i-used : goal.returns-then-i-used
 unfolding more
 returns-then-i-used c = simp (eq-eqb _ _ c.if-i-used.true)
 
-pub returns : goal.returns
+pub returns-else-i-used : goal.returns-else-i-used
 unfolding more
-returns c = simp (ne_eqb _ _ c.if-i-used.false)
+returns-else-i-used c = simp (ne_eqb _ _ c.if-i-used.false)

@@ -3,10 +3,10 @@ use borrow.Author.Tests.{lt-ltb, le-ltb}
 use Rattle.place.specs.Ram.{byte_at}
 use Rattle.place.proofs.ram.byte_at.Goals as goal
 
-pub returns-then-g-kernel : goal.returns-then-g-kernel
+pub returns-then-page-kernel : goal.returns-then-page-kernel
 unfolding byte_at
-returns-then-g-kernel c = simp (lt-ltb _ _ c.if-g-kernel.true, c.file_at-file.ensures, c.stands.ensures)
+returns-then-page-kernel c = simp (lt-ltb _ _ c.if-page-kernel.true, c.file.ensures, c.stands.ensures)
 
 pub returns : goal.returns
 unfolding byte_at
-returns c = simp (le-ltb _ _ c.if-g-kernel.false, c.owned_byte.ensures)
+returns c = simp (le-ltb _ _ c.if-page-kernel.false, c.owned_byte.ensures)

@@ -1,12 +1,12 @@
 -- Of nobody's page it is 0.
-use borrow.Author.Tests.{eq-eqb, ne_eqb}
+use mathlib.Core.Path.{◌∙◌}
 use Rattle.place.specs.Ram.{owned_byte}
 use Rattle.place.proofs.ram.owned_byte.Goals as goal
 
-pub returns-then-own-eq0 : goal.returns-then-own-eq0
+pub returns-in-Some : goal.returns-in-Some
 unfolding owned_byte
-returns-then-own-eq0 c = simp (eq-eqb _ _ c.if-own-eq0.true)
+returns-in-Some c = c.stands.ensures ∙ simp (c.in-Some.is, c.file.ensures)
 
-pub returns : goal.returns
+pub returns-in-None : goal.returns-in-None
 unfolding owned_byte
-returns c = simp (ne_eqb _ _ c.if-own-eq0.false, c.file_at-file.ensures, c.stands.ensures)
+returns-in-None c = simp c.in-None.is

@@ -1,21 +1,18 @@
--- Each byte in its order.
-use mathlib.Core.Path.{sym}
-use Rattle.place.proofs.Texts.{blank_last}
-use borrow.Author.Tests.{eq-eqb, ne_eqb}
+-- Byte by byte.
+use Prim.Native.Nat.{ℕ, ◌+◌}
+use native.Mathlib.Omega.{arith}
+use lib.Dec.{eqb}
+use Rattle.std.proofs.Common.{rules, tests, refl}
+use Rattle.std.proofs.lemmas.Iterator.{YieldsList-from_range}
+use Rattle.std.proofs.lemmas.Iterator.Search.{all_from_yields_List}
+use Rattle.elf.specs.declared.Space.TheVariants.{Kernel}
+use Rattle.elf.specs.Home.{stands}
 use Rattle.place.specs.Made.{blank}
 use Rattle.place.proofs.refusals.blank.Goals as goal
 
-pub returns-then-stands-ne0 : goal.returns-then-stands-ne0
-unfolding blank
-returns-then-stands-ne0 c = simp (sym c.stands.ensures, ne_eqb _ _ c.if-stands-ne0.true)
-
-pub returns-then-stands-ne0-2 : goal.returns-then-stands-ne0-2
-unfolding blank
-returns-then-stands-ne0-2 c = simp (sym c.stands.ensures, eq-eqb _ _ c.if-stands-ne0.false, sym c.stands-2.ensures, ne_eqb _ _ c.if-stands-ne0-2.true)
-
-pub returns-then-stands-ne0-3 : goal.returns-then-stands-ne0-3
-unfolding blank
-returns-then-stands-ne0-3 c = simp (sym c.stands.ensures, eq-eqb _ _ c.if-stands-ne0.false, sym c.stands-2.ensures, eq-eqb _ _ c.if-stands-ne0-2.false, sym c.stands-3.ensures, ne_eqb _ _ c.if-stands-ne0-3.true)
-
 pub returns : goal.returns
-returns c = blank_last _ _ _ _ _ _ c.stands.ensures c.if-stands-ne0.false c.stands-2.ensures c.if-stands-ne0-2.false c.stands-3.ensures c.if-stands-ne0-3.false c.stands-4.ensures
+unfolding blank
+returns c =
+    all_from_yields_List (λ (q : ℕ). eqb (stands Kernel c.args.file.now q) 0) _ _ _ c.all.ensures.ran
+    (YieldsList-from_range c.args.p (c.args.p + 4) 4 refl (omega arith))
+    (λ x b q k. search (rules, tests))

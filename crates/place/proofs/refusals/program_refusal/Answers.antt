@@ -5,4 +5,4 @@ use Rattle.place.proofs.refusals.program_refusal.Goals as goal
 
 pub returns : goal.returns
 unfolding program_refusal
-returns c = simp (sym c.file_at.ensures, sym c.program_fault.ensures, c.of_file.ensures)
+returns c = simp (sym c.file.ensures, sym c.program_fault.ensures, c.of_file.ensures)

@@ -1,17 +1,26 @@
 -- Each test in its order.
-use mathlib.Core.Path.{sym, ◌∙◌}
-use borrow.Author.Tests.{not-true, not-false}
+use mathlib.Core.Bool.{Bool, true, false, not}
+use mathlib.Core.Path.{◌≡◌, refl}
 use Rattle.place.specs.Made.{undone}
 use Rattle.place.proofs.refusals.undone.Goals as goal
 
-pub returns-then-not-same_slots : goal.returns-then-not-same_slots
-unfolding undone
-returns-then-not-same_slots c = simp (sym c.same_slots.ensures ∙ not-true _ c.if-not-same_slots.true-raw)
+-- what a negation says
+differs : (t : Bool) → true ≡ not t → t ≡ false
+differs true e = cc
+differs false e = refl
 
-pub returns-then-not-same_bytes : goal.returns-then-not-same_bytes
+agrees : (t : Bool) → false ≡ not t → t ≡ true
+agrees true e = refl
+agrees false e = cc
+
+pub returns-then-ne : goal.returns-then-ne
 unfolding undone
-returns-then-not-same_bytes c = simp (sym c.same_slots.ensures ∙ not-false _ c.if-not-same_slots.false-raw, sym c.same_bytes.ensures ∙ not-true _ c.if-not-same_bytes.true-raw)
+returns-then-ne c = simp (differs _ c.if-ne.ensures)
+
+pub returns-then-ne-2 : goal.returns-then-ne-2
+unfolding undone
+returns-then-ne-2 c = simp (agrees _ c.if-ne.ensures, differs _ c.if-ne-2.ensures)
 
 pub returns : goal.returns
 unfolding undone
-returns c = simp (sym c.same_slots.ensures ∙ not-false _ c.if-not-same_slots.false-raw, sym c.same_bytes.ensures ∙ not-false _ c.if-not-same_bytes.false-raw, c.unlike.ensures)
+returns c = simp (agrees _ c.if-ne.ensures, agrees _ c.if-ne-2.ensures, c.unlike.ensures)

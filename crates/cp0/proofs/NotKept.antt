@@ -1,9 +1,15 @@
 -- A register that is not kept reads 0 and drops writes (T12): its number is none of those that the moves ask for.
-use Rattle.std.proofs.Common.{◌≡◌, ℕ, Bool, true, false, eqb, sym, refl, ap, ◌∙◌, arith, ne_eqb}
+use Rattle.std.proofs.Common.{◌≡◌, ℕ, Bool, true, false, eqb, leb, sym, refl, ap, ◌∙◌, arith, ne_eqb}
+use Rattle.promise.specs.Pick.{both, either}
 use Rattle.word.specs.Extend.{extend}
 use Rattle.cp0.specs.declared.Cp0.{Cp0}
 use Rattle.cp0.specs.Registers.{kept?}
 use Rattle.cp0.specs.Moves.{word_of, move_out, move_control, move_word, move_in}
+
+-- which registers are kept, opened for the search
+pub kept_is : (n : ℕ) → kept? n ≡ either (leb n 6) (both (leb 8 n) (either (leb n 17) (both (leb 28 n) (leb n 30))))
+unfolding kept?
+kept_is n = refl
 
 other : (n k : ℕ) → kept? n ≡ false → kept? k ≡ true → eqb n k ≡ false
 other n k h p = ne_eqb n k (λ e. let z : ◌≡◌ {A = Bool} true false = sym p ∙ ap kept? (sym e) ∙ h in let y : ◌≡◌ {A = ℕ} 0 1 = cc in absurd (omega arith))

@@ -13,8 +13,6 @@ use Rattle.cp0.proofs.registers.kept.Kinds as kept-kinds
 use Rattle.cp0.proofs.registers.kept.Reads as kept-reads
 use Rattle.cp0.proofs.registers.low.Kinds as low-kinds
 use Rattle.cp0.proofs.registers.low.Reads as low_reads
-use Rattle.cp0.proofs.registers.wide.Kinds as wide-kinds
-use Rattle.cp0.proofs.registers.wide.Reads as wide-reads
 use Rattle.cp0.proofs.registers.kept_index.Kinds as kept-index-kinds
 use Rattle.cp0.proofs.registers.kept_index.Reads as kept-index-reads
 use Rattle.cp0.proofs.registers.kept_entrylo.Kinds as kept-entrylo-kinds
@@ -75,9 +73,6 @@ kept_once κs a p z₁ z₂ ws₁ ws₂ h₁ h₂ = (same h₁ h₂, refl)
 
 pub low_once : Unique low-kinds.ps low-kinds.r low_reads.Pre low_reads.Post
 low_once κs a p z₁ z₂ ws₁ ws₂ h₁ h₂ = (same h₁ h₂, refl)
-
-pub wide_once : Unique wide-kinds.ps wide-kinds.r wide-reads.Pre wide-reads.Post
-wide_once κs a p z₁ z₂ ws₁ ws₂ h₁ h₂ = (same h₁ h₂, refl)
 
 pub kept_index_once : Unique kept-index-kinds.ps kept-index-kinds.r kept-index-reads.Pre kept-index-reads.Post
 kept_index_once κs a p z₁ z₂ ws₁ ws₂ h₁ h₂ = (same h₁ h₂, refl)

@@ -2,6 +2,7 @@
 ghost use Rattle.std.specs.Prelude.{◌≡◌, ◌<◌, ◌≤◌, Bool, true, false};
 ghost use Rattle.cp0.specs.Exceptions as E;
 
+use crate::status::{bev, erl, exl};
 use crate::{Bad, Cp0, Exception, Told};
 
 // What most exceptions tell beside their code.
@@ -62,32 +63,31 @@ fn told(e: Exception) -> Told
 }
 
 // EPC after an exception.
+#[tactic(auto, unfolding(crate::specs::Exceptions::epc_after))]
 fn epc_after(status: u32, epc: u64, pc: u64, slot: bool) -> u64
     ensures { result ≡ E.epc_after status epc pc slot }
 {
-    if status / 2 % 2 == 1 {
-        return epc;
+    match slot {
+        _ if exl(status) => epc,
+        true => pc.wrapping_sub(4),
+        false => pc,
     }
-    if slot {
-        return std::num::wrapping_add_u64(pc, 0xffff_ffff_ffff_fffc);
-    }
-    pc
 }
 
 // BD after an exception.
+#[tactic(auto, unfolding(crate::specs::Exceptions::bd_after))]
 fn bd_after(status: u32, cause: u32, slot: bool) -> u32
     ensures { result ≡ E.bd_after status cause slot }
 {
-    if status / 2 % 2 == 1 {
-        return cause / 0x8000_0000 % 2;
+    if exl(status) {
+        cause / 0x8000_0000 % 2
+    } else {
+        u32::from(slot)
     }
-    if slot {
-        return 1;
-    }
-    0
 }
 
 // Cause after an exception.
+#[tactic(auto, unfolding(crate::specs::Exceptions::cause_after))]
 fn cause_after(cause: u32, code: u32, unit: u32, bd: u32) -> u32
     requires { (code < 32) × (unit < 4) × (bd < 2) }
     ensures { result ≡ E.cause_after cause code unit bd }
@@ -119,6 +119,7 @@ fn addressed(cp0: Cp0, bad: Option<Bad>) -> Cp0
 }
 
 // The registers after an exception at `pc`, by whether the step stood in a slot.
+#[tactic(auto, unfolding(crate::specs::Exceptions::entered, crate::specs::Registers::set), using(crate::proofs::Fits::cause_fits))]
 pub fn entered(cp0: Cp0, pc: u64, slot: bool, e: Exception) -> Cp0
     ensures { result ≡ E.entered cp0 pc slot e }
 {
@@ -134,55 +135,58 @@ pub fn entered(cp0: Cp0, pc: u64, slot: bool, e: Exception) -> Cp0
 }
 
 // The vector's offset.
+#[tactic(auto, unfolding(crate::specs::Exceptions::offset))]
 fn offset(status: u32, refill: bool) -> u64
-    ensures { (result ≡ E.offset status refill) × (result ≤ 0x180) }
+    ensures value { result ≡ E.offset status refill }
+    ensures bound { result ≤ 0x180 }
 {
-    if refill {
-        if status / 2 % 2 == 1 {
-            return 0x180;
-        }
-        return 0;
-    }
-    0x180
+    if refill && !exl(status) { 0 } else { 0x180 }
 }
 
 // Where an exception goes, by Status before it.
+#[tactic(auto, unfolding(crate::specs::Exceptions::vector))]
 pub fn vector(status: u32, e: Exception) -> u64
     ensures { result ≡ E.vector status e }
 {
-    let t = told(e);
-    let far = offset(status, t.refill);
-    if status / 0x40_0000 % 2 == 1 {
-        return 0xffff_ffff_bfc0_0200 + far;
-    }
-    0xffff_ffff_8000_0000 + far
+    let base = if bev(status) {
+        0xffff_ffff_bfc0_0200
+    } else {
+        0xffff_ffff_8000_0000
+    };
+    base + offset(status, told(e).refill)
 }
 
 // Where ERET goes.
+#[tactic(auto, unfolding(crate::specs::Exceptions::return_to))]
 pub fn return_to(cp0: Cp0) -> u64
     ensures { result ≡ E.return_to cp0 }
 {
-    if cp0.status / 4 % 2 == 1 {
-        return cp0.errorepc;
+    if erl(cp0.status) {
+        cp0.errorepc
+    } else {
+        cp0.epc
     }
-    cp0.epc
 }
 
 // Status after ERET.
+#[tactic(auto, unfolding(crate::specs::Exceptions::status_returned))]
 fn status_returned(status: u32) -> u32
     ensures { result ≡ E.status_returned status }
 {
-    if status / 4 % 2 == 1 {
-        return status / 8 * 8 + status % 4;
+    if erl(status) {
+        status / 8 * 8 + status % 4
+    } else {
+        status / 4 * 4 + status % 2
     }
-    status / 4 * 4 + status % 2
 }
 
 // The registers after ERET.
+#[tactic(auto, unfolding(crate::specs::Exceptions::returned, crate::specs::Registers::set))]
 pub fn returned(cp0: Cp0) -> Cp0
     ensures { result ≡ E.returned cp0 }
 {
-    let mut n = cp0;
-    n.status = status_returned(cp0.status);
-    n
+    Cp0 {
+        status: status_returned(cp0.status),
+        ..cp0
+    }
 }

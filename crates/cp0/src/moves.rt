@@ -2,13 +2,12 @@
 ghost use Rattle.std.specs.Prelude.{◌≡◌};
 ghost use Rattle.cp0.specs.Moves as M;
 
-use crate::registers::{
-    kept_entryhi, kept_entrylo, kept_index, kept_status, kept_wired, low, wide,
-};
+use crate::registers::{kept_entryhi, kept_entrylo, kept_index, kept_status, kept_wired, low};
 use crate::status::cause_read;
 use crate::{Cp0, NotBuilt};
 
 // A 32-bit register by its number; one that is not kept reads 0.
+#[tactic(auto, unfolding(crate::specs::Moves::word_of))]
 fn word_of(cp0: Cp0, lines: u8, number: usize) -> u32
     ensures { result ≡ M.word_of cp0 lines number }
 {
@@ -34,6 +33,7 @@ fn word_of(cp0: Cp0, lines: u8, number: usize) -> u32
 }
 
 // What a doubleword move takes from a register.
+#[tactic(auto, unfolding(crate::specs::Moves::move_out))]
 pub fn move_out(cp0: Cp0, lines: u8, number: usize) -> u64
     ensures { result ≡ M.move_out cp0 lines number }
 {
@@ -42,128 +42,101 @@ pub fn move_out(cp0: Cp0, lines: u8, number: usize) -> u64
         8 => cp0.badvaddr,
         14 => cp0.epc,
         30 => cp0.errorepc,
-        _ => word::extend(wide(word_of(cp0, lines, number))),
+        _ => word::extend(u64::from(word_of(cp0, lines, number))),
     }
 }
 
 // A move of a word to a register that does not go with the TLB.
+#[tactic(auto, unfolding(crate::specs::Moves::move_control, crate::specs::Registers::set))]
 fn move_control(cp0: Cp0, number: usize, w: u32) -> Cp0
     ensures { result ≡ M.move_control cp0 number w }
 {
-    let mut n = cp0;
     match number {
-        9 => {
-            n.count = w;
-            n
-        }
-        11 => {
-            n.compare = w;
-            n.cause = cp0.cause / 0x1_0000 * 0x1_0000 + cp0.cause % 0x8000;
-            n
-        }
-        12 => {
-            n.status = kept_status(w);
-            n
-        }
-        13 => {
-            n.cause = cp0.cause / 0x400 * 0x400 + w / 256 % 4 * 256 + cp0.cause % 256;
-            n
-        }
-        16 => {
-            n.config = cp0.config / 8 * 8 + w % 8;
-            n
-        }
-        28 => {
-            n.taglo = w;
-            n
-        }
-        29 => {
-            n.taghi = w;
-            n
-        }
-        _ => n,
+        9 => Cp0 { count: w, ..cp0 },
+        11 => Cp0 {
+            compare: w,
+            cause: cp0.cause / 0x1_0000 * 0x1_0000 + cp0.cause % 0x8000,
+            ..cp0
+        },
+        12 => Cp0 {
+            status: kept_status(w),
+            ..cp0
+        },
+        13 => Cp0 {
+            cause: cp0.cause / 0x400 * 0x400 + w / 256 % 4 * 256 + cp0.cause % 256,
+            ..cp0
+        },
+        16 => Cp0 {
+            config: cp0.config / 8 * 8 + w % 8,
+            ..cp0
+        },
+        28 => Cp0 { taglo: w, ..cp0 },
+        29 => Cp0 { taghi: w, ..cp0 },
+        _ => cp0,
     }
 }
 
 // A move of a word to a 32-bit register.
+#[tactic(auto, unfolding(crate::specs::Moves::move_word, crate::specs::Registers::set))]
 fn move_word(cp0: Cp0, number: usize, w: u32) -> Cp0
     ensures { result ≡ M.move_word cp0 number w }
 {
-    let mut n = cp0;
     match number {
-        0 => {
-            n.index = kept_index(w);
-            n
-        }
-        2 => {
-            n.entrylo0 = kept_entrylo(w);
-            n
-        }
-        3 => {
-            n.entrylo1 = kept_entrylo(w);
-            n
-        }
-        5 => {
-            n.pagemask = w;
-            n
-        }
-        6 => {
-            n.wired = kept_wired(w);
-            n.random = 47;
-            n
-        }
-        10 => {
-            n.entryhi = kept_entryhi(wide(w));
-            n
-        }
+        0 => Cp0 {
+            index: kept_index(w),
+            ..cp0
+        },
+        2 => Cp0 {
+            entrylo0: kept_entrylo(w),
+            ..cp0
+        },
+        3 => Cp0 {
+            entrylo1: kept_entrylo(w),
+            ..cp0
+        },
+        5 => Cp0 { pagemask: w, ..cp0 },
+        6 => Cp0 {
+            wired: kept_wired(w),
+            random: 47,
+            ..cp0
+        },
+        10 => Cp0 {
+            entryhi: kept_entryhi(u64::from(w)),
+            ..cp0
+        },
         _ => move_control(cp0, number, w),
     }
 }
 
 // A doubleword move to a register.
+#[tactic(auto, unfolding(crate::specs::Moves::move_in, crate::specs::Registers::set))]
 pub fn move_in(cp0: Cp0, number: usize, value: u64) -> Cp0
     ensures { result ≡ M.move_in cp0 number value }
 {
-    let mut n = cp0;
     match number {
-        4 => {
-            n.context = value / 0x80_0000 % 0x200_0000_0000 * 0x80_0000
-                + cp0.context / 16 % 0x8_0000 * 16;
-            n
-        }
-        14 => {
-            n.epc = value;
-            n
-        }
-        30 => {
-            n.errorepc = value;
-            n
-        }
+        4 => Cp0 {
+            context: value / 0x80_0000 % 0x200_0000_0000 * 0x80_0000
+                + cp0.context / 16 % 0x8_0000 * 16,
+            ..cp0
+        },
+        14 => Cp0 { epc: value, ..cp0 },
+        30 => Cp0 {
+            errorepc: value,
+            ..cp0
+        },
         _ => move_word(cp0, number, low(value)),
     }
 }
 
 // Whether a Status value is built.
+#[tactic(auto, unfolding(crate::specs::Moves::built_status))]
 pub fn built_status(w: u32) -> bool
     ensures { result ≡ M.built_status w }
 {
-    if w / 0x2000_0000 % 8 != 0 {
-        return false;
-    }
-    if w / 0x200_0000 % 2 != 0 {
-        return false;
-    }
-    if w / 32 % 8 != 0 {
-        return false;
-    }
-    let ksu = w / 8 % 4;
-    if ksu == 1 {
-        return false;
-    }
-    if ksu == 3 {
-        return false;
-    }
-    true
+    w / 0x2000_0000 % 8 == 0
+        && w / 0x200_0000 % 2 == 0
+        && w / 32 % 8 == 0
+        && !matches!(w / 8 % 4, 1 | 3)
 }
 
 // Whether a move's value is built, by its low word.

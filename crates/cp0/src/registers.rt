@@ -7,22 +7,11 @@ use memory::PAddr;
 use tlb::Slot;
 
 // Whether a register is kept, by its number.
+#[tactic(auto, using(crate::proofs::NotKept::kept_is))]
 pub fn kept(number: usize) -> bool
     ensures { result ≡ R.kept? number }
 {
-    if number <= 6 {
-        return true;
-    }
-    if number < 8 {
-        return false;
-    }
-    if number <= 17 {
-        return true;
-    }
-    if number < 28 {
-        return false;
-    }
-    number <= 30
+    matches!(number, 0..=6 | 8..=17 | 28..=30)
 }
 
 // The low word.
@@ -30,13 +19,6 @@ pub fn low(x: u64) -> u32
     ensures { result ≡ R.low x }
 {
     (x % 0x1_0000_0000) as u32
-}
-
-// A word as a doubleword.
-pub fn wide(x: u32) -> u64
-    ensures { result ≡ x }
-{
-    x as u64
 }
 
 // Index's bits 31 and 5..0.
@@ -93,36 +75,43 @@ pub fn kept_cause(x: u32) -> u32
 }
 
 // LL leaves the physical address.
+#[tactic(auto, unfolding(crate::specs::Registers::linked, crate::specs::Registers::set))]
 pub fn linked(cp0: Cp0, p: PAddr) -> Cp0
     ensures { result ≡ R.linked cp0 p }
 {
-    let mut n = cp0;
-    n.lladdr = low(p.0 / 16);
-    n
+    Cp0 {
+        lladdr: low(p.0 / 16),
+        ..cp0
+    }
 }
 
 // TLBP leaves what it found.
+#[tactic(auto, unfolding(crate::specs::Registers::probed, crate::specs::Registers::set))]
 pub fn probed(cp0: Cp0, index: u64) -> Cp0
     ensures { result ≡ R.probed cp0 index }
 {
-    let mut n = cp0;
-    n.index = low(index);
-    n
+    Cp0 {
+        index: low(index),
+        ..cp0
+    }
 }
 
 // TLBR leaves a slot's values.
+#[tactic(auto, unfolding(crate::specs::Registers::slot_read, crate::specs::Registers::set))]
 pub fn slot_read(cp0: Cp0, s: Slot) -> Cp0
     ensures { result ≡ R.slot_read cp0 s }
 {
-    let mut n = cp0;
-    n.pagemask = low(s.mask);
-    n.entryhi = s.hi;
-    n.entrylo0 = low(s.lo0);
-    n.entrylo1 = low(s.lo1);
-    n
+    Cp0 {
+        pagemask: low(s.mask),
+        entryhi: s.hi,
+        entrylo0: low(s.lo0),
+        entrylo1: low(s.lo1),
+        ..cp0
+    }
 }
 
 // The registers of the fresh machine.
+#[tactic(auto, unfolding(crate::specs::Registers::fresh))]
 pub fn fresh_cp0() -> Cp0
     ensures { result ≡ R.fresh }
 {

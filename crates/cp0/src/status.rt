@@ -4,57 +4,64 @@ ghost use Rattle.cp0.specs.Status as S;
 
 use tlb::Mode;
 
+// Whether exceptions go to the boot ROM.
+pub(crate) fn bev(status: u32) -> bool
+    ensures { result ≡ S.BEV status }
+{
+    status / 0x40_0000 % 2 == 1
+}
+
+// Whether the processor is at the error level.
+pub(crate) fn erl(status: u32) -> bool
+    ensures { result ≡ S.ERL status }
+{
+    status / 4 % 2 == 1
+}
+
+// Whether the processor is at the exception level.
+pub(crate) fn exl(status: u32) -> bool
+    ensures { result ≡ S.EXL status }
+{
+    status / 2 % 2 == 1
+}
+
 // Whether Status says User mode.
+#[tactic(auto, unfolding(crate::specs::Status::user))]
 pub fn user(status: u32) -> bool
     ensures { result ≡ S.user status }
 {
-    if status / 8 % 4 != 2 {
-        return false;
-    }
-    if status / 2 % 2 == 1 {
-        return false;
-    }
-    if status / 4 % 2 == 1 {
-        return false;
-    }
-    true
+    status / 8 % 4 == 2 && !exl(status) && !erl(status)
 }
 
 // Which map of segments holds.
+#[tactic(auto, unfolding(crate::specs::Status::mode_of))]
 pub fn mode_of(status: u32) -> Mode
     ensures { result ≡ S.mode_of status }
 {
     if user(status) {
-        return Mode::User;
+        Mode::User
+    } else if erl(status) {
+        Mode::Error
+    } else {
+        Mode::Kernel
     }
-    if status / 4 % 2 == 1 {
-        return Mode::Error;
-    }
-    Mode::Kernel
 }
 
 // Cause with the lines in IP6..2, as it reads.
+#[tactic(auto, unfolding(crate::specs::Status::cause_read))]
 pub fn cause_read(cause: u32, lines: u8) -> u32
     ensures { result ≡ S.cause_read cause lines }
 {
-    cause / 0x8000 * 0x8000 + (lines % 32) as u32 * 0x400 + cause % 0x400
+    cause / 0x8000 * 0x8000 + u32::from(lines % 32) * 0x400 + cause % 0x400
 }
 
 // Whether an interrupt is taken.
+#[tactic(auto, unfolding(crate::specs::Status::interrupted))]
 pub fn interrupted(status: u32, cause: u32, lines: u8) -> bool
     ensures { result ≡ S.interrupted status cause lines }
 {
-    if status % 2 != 1 {
-        return false;
-    }
-    if status / 2 % 2 == 1 {
-        return false;
-    }
-    if status / 4 % 2 == 1 {
-        return false;
-    }
-    if status / 256 % 256 & cause_read(cause, lines) / 256 % 256 == 0 {
-        return false;
-    }
-    true
+    status % 2 == 1
+        && !exl(status)
+        && !erl(status)
+        && status / 256 % 256 & cause_read(cause, lines) / 256 % 256 != 0
 }

@@ -34,8 +34,3 @@ bd_fits status cause slot = go (EXL status) slot
     go true s = omega arith
     go false true = omega arith
     go false false = omega arith
-
--- all three, of what the calls gave
-pub cause_fits : (t : Told) (bd : ℕ) (e : Exception) (status cause : ℕ) (slot : Bool) → t ≡ told e → bd ≡ bd_after status cause slot → (t.code < 32) × (t.unit < 4) × (bd < 2)
-cause_fits t bd e status cause slot p q =
-    (subst (λ (x : Told). x.code < 32) (sym p) (told_fits e).0, subst (λ (x : Told). x.unit < 4) (sym p) (told_fits e).1, subst (λ (x : ℕ). x < 2) (sym q) (bd_fits status cause slot))

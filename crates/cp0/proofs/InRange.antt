@@ -1,14 +1,14 @@
 -- The registers in range, fact by fact; and a register that is set to what it may hold leaves them so.
 use Rattle.std.proofs.Common.{◌≡◌, ℕ, Bool, true, false, eqb, sym, refl, ap, ◌∙◌, arith, eq-eqb, eqb-true}
 use Rattle.promise.specs.Pick.{pick, both}
+use Rattle.tlb.proofs.StaysInRange.{both_true}
 use Rattle.tlb.specs.PageMask.{legal_mask}
 use Rattle.cp0.specs.declared.Cp0.{Cp0}
 use Rattle.cp0.specs.Registers.{Index, EntryLo0, EntryLo1, Context, PageMask, Wired, EntryHi, Status, Cause, PRId, Config, set, kept_index, kept_entry_lo, kept_wired, kept_entry_hi, kept_context, kept_cause}
 use Rattle.cp0.specs.Range.{random_in_range, status_in_range, config_in_range, entries_in_range, control_in_range, cp0_in_range}
 
 pub split : (a b : Bool) → both a b ≡ true → (a ≡ true) × (b ≡ true)
-split true b h = (refl, h)
-split false b h = let z : ◌≡◌ {A = ℕ} 0 1 = cc in absurd (omega arith)
+split a b h = both_true a b h
 
 pub join : (a b : Bool) → a ≡ true → b ≡ true → both a b ≡ true
 join a b p q = rw (p, q)

@@ -5,13 +5,6 @@ use Rattle.cp0.specs.Registers.{only, replaced, cleared, kept_index, kept_entry_
 use Rattle.cp0.specs.Exceptions.{cause_after}
 use Rattle.cp0.proofs.Fields.{cause_of, status_whole, five_changed, cause_whole, code_replaced, ip_replaced, ip7_replaced, ip7_cleared, ce_replaced, bd_replaced}
 
--- a test of what a register keeps, made on a call's result
-pub is_kept : (r kept x : ℕ) → r ≡ kept → r ≡ x → eqb kept x ≡ true
-is_kept r kept x p q = eq-eqb kept x (sym p ∙ q)
-
-pub not_kept : (r kept x : ℕ) → r ≡ kept → (r ≡ x → ⊥) → eqb kept x ≡ false
-not_kept r kept x p q = ne_eqb kept x (λ e. q (p ∙ e))
-
 pub index_kept : (w : ℕ) → kept_index (kept_index w) ≡ kept_index w
 index_kept w = omega arith
 

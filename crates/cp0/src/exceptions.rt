@@ -1,17 +1,33 @@
 // The entry of an exception, its vector, and the return from it.
-ghost use Rattle.std.specs.Prelude.{◌≡◌, ◌<◌, ◌≤◌, Bool, true, false};
+ghost use Rattle.std.specs.Prelude.{◌≡◌, ◌<◌, ◌≤◌, false, None, Some};
 ghost use Rattle.cp0.specs.Exceptions as E;
 
 use crate::status::{bev, erl, exl};
 use crate::{Bad, Cp0, Exception, Told};
 
-// What most exceptions tell beside their code.
-const PLAIN: Told = Told {
-    code: 0,
-    unit: 0,
-    refill: false,
-    bad: None,
-};
+impl Told {
+    // A code alone.
+    fn plain(code: u32) -> Told
+        ensures { result ≡ E.tells code 0 false None }
+    {
+        Told {
+            code,
+            unit: 0,
+            refill: false,
+            bad: None,
+        }
+    }
+
+    // With an address.
+    fn leaving(self, bad: Bad) -> Told
+        ensures { result ≡ E.tells self.code self.unit self.refill (Some bad) }
+    {
+        Told {
+            bad: Some(bad),
+            ..self
+        }
+    }
+}
 
 // What an exception tells.
 #[tactic(auto, unfolding(crate::specs::Exceptions::told))]
@@ -19,46 +35,29 @@ fn told(e: Exception) -> Told
     ensures { result ≡ E.told e }
 {
     match e {
-        Exception::Int => PLAIN,
-        Exception::Mod(v) => Told {
-            code: 1,
-            bad: Some(Bad::Page(v)),
-            ..PLAIN
-        },
+        Exception::Int => Told::plain(0),
+        Exception::Mod(v) => Told::plain(1).leaving(Bad::Page(v)),
         Exception::TLBL { bad, refill } => Told {
-            code: 2,
             refill,
-            bad: Some(Bad::Page(bad)),
-            ..PLAIN
+            ..Told::plain(2).leaving(Bad::Page(bad))
         },
         Exception::TLBS { bad, refill } => Told {
-            code: 3,
             refill,
-            bad: Some(Bad::Page(bad)),
-            ..PLAIN
+            ..Told::plain(3).leaving(Bad::Page(bad))
         },
-        Exception::AdEL(v) => Told {
-            code: 4,
-            bad: Some(Bad::Address(v)),
-            ..PLAIN
-        },
-        Exception::AdES(v) => Told {
-            code: 5,
-            bad: Some(Bad::Address(v)),
-            ..PLAIN
-        },
-        Exception::IBE => Told { code: 6, ..PLAIN },
-        Exception::DBE => Told { code: 7, ..PLAIN },
-        Exception::Sys => Told { code: 8, ..PLAIN },
-        Exception::Bp => Told { code: 9, ..PLAIN },
-        Exception::RI => Told { code: 10, ..PLAIN },
+        Exception::AdEL(v) => Told::plain(4).leaving(Bad::Address(v)),
+        Exception::AdES(v) => Told::plain(5).leaving(Bad::Address(v)),
+        Exception::IBE => Told::plain(6),
+        Exception::DBE => Told::plain(7),
+        Exception::Sys => Told::plain(8),
+        Exception::Bp => Told::plain(9),
+        Exception::RI => Told::plain(10),
         Exception::CpU(unit) => Told {
-            code: 11,
             unit: u32::from(unit % 4),
-            ..PLAIN
+            ..Told::plain(11)
         },
-        Exception::Ov => Told { code: 12, ..PLAIN },
-        Exception::Tr => Told { code: 13, ..PLAIN },
+        Exception::Ov => Told::plain(12),
+        Exception::Tr => Told::plain(13),
     }
 }
 
@@ -88,12 +87,12 @@ fn bd_after(status: u32, cause: u32, slot: bool) -> u32
 
 // Cause after an exception.
 #[tactic(auto, unfolding(crate::specs::Exceptions::cause_after))]
-fn cause_after(cause: u32, code: u32, unit: u32, bd: u32) -> u32
-    requires { (code < 32) × (unit < 4) × (bd < 2) }
-    ensures { result ≡ E.cause_after cause code unit bd }
+fn cause_after(cause: u32, t: Told, bd: u32) -> u32
+    requires { (t.code < 32) × (t.unit < 4) × (bd < 2) }
+    ensures { result ≡ E.cause_after cause t.code t.unit bd }
 {
-    let coded = cause / 128 * 128 + code * 4 + cause % 4;
-    let united = coded / 0x4000_0000 * 0x4000_0000 + unit * 0x1000_0000 + coded % 0x1000_0000;
+    let coded = cause / 128 * 128 + t.code * 4 + cause % 4;
+    let united = coded / 0x4000_0000 * 0x4000_0000 + t.unit * 0x1000_0000 + coded % 0x1000_0000;
     bd * 0x8000_0000 + united % 0x8000_0000
 }
 
@@ -119,7 +118,7 @@ fn addressed(cp0: Cp0, bad: Option<Bad>) -> Cp0
 }
 
 // The registers after an exception at `pc`, by whether the step stood in a slot.
-#[tactic(auto, unfolding(crate::specs::Exceptions::entered, crate::specs::Registers::set), using(crate::proofs::Fits::cause_fits))]
+#[tactic(auto, unfolding(crate::specs::Exceptions::entered, crate::specs::Registers::set), using(crate::proofs::Fits::told_fits, crate::proofs::Fits::bd_fits))]
 pub fn entered(cp0: Cp0, pc: u64, slot: bool, e: Exception) -> Cp0
     ensures { result ≡ E.entered cp0 pc slot e }
 {
@@ -127,7 +126,7 @@ pub fn entered(cp0: Cp0, pc: u64, slot: bool, e: Exception) -> Cp0
     let bd = bd_after(cp0.status, cp0.cause, slot);
     let n = Cp0 {
         epc: epc_after(cp0.status, cp0.epc, pc, slot),
-        cause: cause_after(cp0.cause, t.code, t.unit, bd),
+        cause: cause_after(cp0.cause, t, bd),
         status: cp0.status / 4 * 4 + 2 + cp0.status % 2,
         ..cp0
     };

@@ -4,7 +4,7 @@ use mathlib.Core.Path.{◌≡◌, refl, sym, subst}
 use mathlib.Core.Bool.{Bool, true, false}
 use mathlib.Core.List.{List}
 use native.Mathlib.Nat.{add-zero}
-use native.Mathlib.Decide.{ℕ_discrete}
+use Rattle.std.proofs.Common.{below_more}
 use native.Mathlib.Omega.{arith}
 use Rattle.tlb.specs.declared.Found.{Found}
 use Rattle.tlb.specs.declared.Found.TheVariants.{Absent, One, Many}
@@ -15,27 +15,19 @@ clash : {b : Bool} → b ≡ true → b ≡ false → ⊥
 clash e d = let z : ◌≡◌ {A = ℕ} 0 1 = cc in omega arith
 
 module _ (matching : ℕ → Bool) where
-  -- what holds of the slots below i and of slot i holds below i + 1
-  below_next : (P : ℕ → Type 0) (i : ℕ) → ((j : ℕ) → j < i → P j) → P i → (j : ℕ) → j < i + 1 → P j
-  below_next P i all here j h = go (ℕ_discrete j i)
-    where
-      go : Dec (j ≡ i) → P j
-      go (yes e) = subst P (sym e) here
-      go (no n) = all j (omega arith)
-
   tells_more : (i : ℕ) (f : Found) (b : Bool) → matching i ≡ b → Tells matching i f → Tells matching (i + 1) (more b i f)
   unfolding Tells more
-  tells_more i Absent false e t = below_next (λ (j : ℕ). matching j ≡ false) i t e
+  tells_more i Absent false e t = below_more (λ (j : ℕ). matching j ≡ false) i t e
   tells_more i (One k) false e t =
       record {
         below = let l = t.below in omega arith;
         matches_it = t.matches_it;
-        alone = below_next (λ (j : ℕ). matching j ≡ true → j ≡ k) i t.alone (λ m. absurd (clash m e));
+        alone = below_more (λ (j : ℕ). matching j ≡ true → j ≡ k) i t.alone (λ m. absurd (clash m e));
       }
   tells_more i Many false e t =
       record { first = t.first; second = t.second; apart = t.apart; below = let l = t.below in omega arith; first_matches = t.first_matches; second_matches = t.second_matches }
   tells_more i Absent true e t =
-      record { below = omega arith; matches_it = e; alone = below_next (λ (j : ℕ). matching j ≡ true → j ≡ i) i (λ j h m. absurd (clash m (t j h))) (λ m. refl) }
+      record { below = omega arith; matches_it = e; alone = below_more (λ (j : ℕ). matching j ≡ true → j ≡ i) i (λ j h m. absurd (clash m (t j h))) (λ m. refl) }
   tells_more i (One k) true e t =
       record { first = k; second = i; apart = t.below; below = omega arith; first_matches = t.matches_it; second_matches = e }
   tells_more i Many true e t =

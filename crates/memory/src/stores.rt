@@ -110,13 +110,14 @@ fn lands(ram: &[u8], s: Store) -> bool
     in_ram(ram, s.to) && 1 <= s.size && s.to.0 % 8 + u64::from(s.size) <= 8
 }
 
-// The low `size` bytes of the value into a list from `to` on, the top one first.
-fn put(ram: &mut [u8], to: usize, size: u8, value: u64)
-    requires { (size ≤ 8) × (to + size ≤ length ram.old) }
-    ensures { ram.new ≡ sets ram.old to (B.bytes_of size value) }
+// The bytes of a store into a list, the top one first. A loop, since `to_be_bytes` would need an array (.ci/arrays).
+fn put(ram: &mut [u8], s: Store)
+    requires { (s.size ≤ 8) × (s.to.0 + s.size ≤ length ram.old) }
+    ensures { ram.new ≡ sets ram.old s.to.0 (B.bytes_of s.size s.value) }
 {
-    for k in 0..size {
-        ram[to + k as usize] = byte(value, size - 1 - k);
+    let at = s.to.0 as usize;
+    for k in 0..s.size {
+        ram[at + k as usize] = byte(s.value, s.size - 1 - k);
     }
 }
 
@@ -130,6 +131,6 @@ pub fn put_bytes(ram: &mut [u8], s: Option<Store>) -> Result<(), BusError>
     if !lands(ram, s) {
         return Err(BusError);
     }
-    put(ram, s.to.0 as usize, s.size, s.value);
+    put(ram, s);
     Ok(())
 }

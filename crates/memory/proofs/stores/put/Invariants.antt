@@ -6,7 +6,7 @@ use Rattle.memory.proofs.stores.put.Given as goal
 
 abbrev pub invariant-loop-k : goal.invariant-loop-k
 invariant-loop-k l = record {
-  within : l.k ≤ l.size;
+  within : l.k ≤ l.s.size;
   long : length l.ram ≡ length l.initial.ram;
-  left : sets l.ram (l.to + l.k) (bytes_of (l.size - l.k) l.value) ≡ sets l.initial.ram l.to (bytes_of l.size l.value);
+  left : sets l.ram (l.s.to.0 + l.k) (bytes_of (l.s.size - l.k) l.s.value) ≡ sets l.initial.ram l.s.to.0 (bytes_of l.s.size l.s.value);
 }

@@ -1,4 +1,5 @@
 // The maps of codes, row by row as the manual draws them.
+// Statics, since a constant array of enums would be built anew on the stack at each read.
 use super::{
     ArithmeticImmediateOp, ArithmeticOp, BranchOp, HiLoOp, JumpOp, JumpRegisterOp, LoadOp,
     LogicImmediateOp, LogicOp, MultiplyOp, ShiftOp, ShiftVariableOp, SpecialOp, StoreOp,
@@ -39,7 +40,7 @@ pub enum Major {
 }
 
 // The 64 major opcodes.
-pub const MAJOR: [Major; 64] = [
+pub static MAJOR: [Major; 64] = [
     Major::Special,
     Major::Regimm,
     Major::Own(Entry::Jump(JumpOp::J)),
@@ -107,7 +108,7 @@ pub const MAJOR: [Major; 64] = [
 ];
 
 // The 64 functions of SPECIAL.
-pub const SPECIAL: [Entry; 64] = [
+pub static SPECIAL: [Entry; 64] = [
     Entry::Shift(ShiftOp::SLL),
     Entry::Reserved,
     Entry::Shift(ShiftOp::SRL),
@@ -175,7 +176,7 @@ pub const SPECIAL: [Entry; 64] = [
 ];
 
 // The 32 codes of REGIMM.
-pub const REGIMM: [Entry; 32] = [
+pub static REGIMM: [Entry; 32] = [
     Entry::Branch(BranchOp::BLTZ),
     Entry::Branch(BranchOp::BGEZ),
     Entry::Branch(BranchOp::BLTZL),

@@ -2,6 +2,7 @@
 use Prim.Native.Nat.{ℕ}
 use mathlib.Core.Bool.{false}
 use mathlib.Core.List.{List, [], ◌∷◌}
+use Rattle.std.specs.Prelude.{None}
 use mathlib.Core.Path.{◌≡◌, refl}
 use lib.Count.{ones, ones_in, count_trailing_zeros}
 use lib.ListN.{length, replicate}
@@ -36,9 +37,8 @@ use Rattle.card.specs.Run.{refusal_by, steps, run_of, ran}
 use Rattle.frame.specs.Line.{line_of, before, lines_of}
 use Rattle.frame.specs.Digits as digits
 use Rattle.frame.specs.Frame as frames
-use Rattle.image.specs.Allowed as values
-use Rattle.image.specs.Refusals.{none, is_frame, is_budget, refusal_of, first_of, image_refusal}
-use Rattle.image.specs.Acts.{regs_set, cpu_set, act, acts}
+use Rattle.image.specs.Refusals.{first_of, image_refusal}
+use Rattle.image.specs.Acts.{act, acts}
 use Rattle.image.specs.Image.{image, loaded_by, image_of, ram_after}
 use Rattle.image.specs.Example.{text}
 use Rattle.answer.specs.Digits.{character, digit, hex_of}
@@ -55,8 +55,8 @@ start = machine (cpu_of 0xffffffff80000000 false 0 0 0 false) cp0.fresh (replica
 abbrev loaded : List ℕ
 loaded = 0x24 ∷ 0x08 ∷ 0x00 ∷ 0x05 ∷ 0x01 ∷ 0x08 ∷ 0x48 ∷ 0x21 ∷ replicate 65528 0
 
-is_read : (ram : List ℕ) → length ram ≡ 65536 → (image_of text ram ≡ image start 2 none) × (ram_after text ram ≡ loaded)
-unfolding image_of ram_after image_refusal loaded_by line_of before lines_of digits.hex? digits.digit digits.all_hex digits.number_from digits.number frames.tagged frames.framed frames.frame_of values.register_allowed values.address_allowed values.allowed is_frame is_budget refusal_of first_of acts act regs_set cpu_set fresh put_bytes bytes_of byte
+is_read : (ram : List ℕ) → length ram ≡ 65536 → (image_of text ram ≡ image start 2 None) × (ram_after text ram ≡ loaded)
+unfolding image_of ram_after image_refusal loaded_by line_of before lines_of digits.number_from digits.number frames.framed frames.frame_of first_of acts act fresh put_bytes bytes_of byte
 is_read ram h = (rw h, rw h)
 
 is_run : cardrun_text (ran (run_of [] 0 2 start loaded)) ≡ answer

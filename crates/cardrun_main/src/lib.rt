@@ -4,7 +4,7 @@
 ghost use Rattle.answer.specs.Wrote.{Wrote};
 ghost use Rattle.cardrun_main.specs.Printed.{printed};
 
-use program::{End, Input};
+use program::End;
 use std::env::Env;
 use std::io::Read;
 
@@ -12,13 +12,11 @@ use std::io::Read;
 fn answer_to(text: &[u8], ram: &mut [u8], out: &mut [u8]) -> usize
     ensures { Wrote out.old 0 (printed text.now ram.old) result out.new }
 {
-    let i = image::read_image(text, &mut *ram);
-    if i.number != 0 {
-        return answer::refusal_text(&mut *out, i.number, i.line);
+    let i = image::read_image(text, ram);
+    match i.refusal {
+        Some(r) => answer::refusal_text(out, r.number, r.line),
+        None => answer::cardrun_text(out, card::run(i.machine, ram, &[], 0, i.budget)),
     }
-    let m = i.machine;
-    let ran = card::run(m, &mut *ram, &text[0..0], 0, i.budget);
-    answer::cardrun_text(&mut *out, ran)
 }
 
 // Answers an image: every answer fits the room.
@@ -42,7 +40,7 @@ pub fn cardrun<R: Env + Print + Eprint, I: Read>(rt: &R, input: &mut I) -> End {
         );
     }
     let mut text = [0u8; 65537];
-    let Input::Bytes(n) = program::read_whole(&mut *input, &mut text) else {
+    let Ok(n) = program::read_whole(input, &mut text) else {
         return program::unread(rt, b"cardrun: standard input cannot be read\n");
     };
     answer_image(rt, &text[..n])

@@ -1,2 +1,3 @@
--- What is printed fits the buffer.
+-- What is printed fits the buffer, and that a contract says all.
 pub mod Fits
+pub mod Once

@@ -4,26 +4,28 @@
 
 mod arguments;
 
+ghost use Rattle.std.specs.Prelude.{◌≡◌};
 ghost use Rattle.answer.specs.Wrote.{Wrote};
-ghost use Rattle.cardstate_main.specs.Printed.{printed};
+ghost use Rattle.cardstate_main.specs.Printed.{printed, ram_left};
 
-use arguments::Lines;
-use program::{End, Input};
+use program::End;
 use std::env::Env;
 use std::io::Read;
 use std::rt::Files;
 
-// The text that answers an image, run with a ROM and interrupt lines.
-fn answer_to(text: &[u8], ram: &mut [u8], rom: &[u8], lines: u8, out: &mut [u8]) -> usize
-    ensures { Wrote out.old 0 (printed text.now ram.old rom.now lines) result out.new }
+// Writes the text that answers an image, run with a ROM and interrupt lines, and says where it ends.
+pub fn answer_to(text: &[u8], ram: &mut [u8], rom: &[u8], lines: u8, out: &mut [u8]) -> usize
+    ensures answer { Wrote out.old 0 (printed text.now ram.old rom.now lines) result out.new }
+    ensures memory { ram.new ≡ ram_left text.now ram.old rom.now lines }
 {
-    let i = image::read_image(text, &mut *ram);
-    if i.number != 0 {
-        return answer::refusal_text(&mut *out, i.number, i.line);
+    let i = image::read_image(text, ram);
+    match i.refusal {
+        Some(r) => answer::refusal_text(out, r.number, r.line),
+        None => {
+            let ran = card::run(i.machine, ram, rom, lines, i.budget);
+            answer::cardstate_text(out, ran, ram)
+        }
     }
-    let m = i.machine;
-    let ran = card::run(m, &mut *ram, rom, lines, i.budget);
-    answer::cardstate_text(&mut *out, ran, &*ram)
 }
 
 // Answers an image: every answer fits the room.
@@ -41,43 +43,33 @@ fn answer_image<R: Print + Eprint>(rt: &R, text: &[u8], rom: &[u8], lines: u8) -
 // Reads the image and answers it; one byte more than an image may have is read, and no further.
 fn answer_input<R: Print + Eprint, I: Read>(rt: &R, input: &mut I, rom: &[u8], lines: u8) -> End {
     let mut text = [0u8; 65537];
-    let Input::Bytes(n) = program::read_whole(&mut *input, &mut text) else {
+    let Ok(n) = program::read_whole(input, &mut text) else {
         return program::unread(rt, b"cardstate: standard input cannot be read\n");
     };
     answer_image(rt, &text[..n], rom, lines)
 }
 
-// Reads the boot ROM into `rom` and answers.
+// Reads the boot ROM and answers; there is room for one byte more than it may have, and no further byte is read.
 fn start<R: Env + Files + Print + Eprint, I: Read>(
-    rt: &R,
-    input: &mut I,
-    rom: &mut [u8],
-    lines: u8,
-) -> End {
-    let Input::Bytes(n) = arguments::read_rom(rt, &mut *rom) else {
-        return program::unread(rt, b"cardstate: the boot ROM cannot be read\n");
-    };
-    answer_input(rt, input, &rom[..n], lines)
-}
-
-// Room for one byte more than a boot ROM may have, and no further byte is read.
-fn start_with<R: Env + Files + Print + Eprint, I: Read>(
     rt: &R,
     input: &mut I,
     room: &mut [u8; 4194305],
     lines: u8,
 ) -> End {
-    start(rt, input, room, lines)
+    let Ok(n) = arguments::read_rom(rt, room) else {
+        return program::unread(rt, b"cardstate: the boot ROM cannot be read\n");
+    };
+    answer_input(rt, input, &room[..n], lines)
 }
 
 // Reads the arguments and answers.
 pub fn cardstate<R: Env + Files + Print + Eprint, I: Read>(rt: &R, input: &mut I) -> End {
-    let Lines::Are(lines) = arguments::lines_given(rt) else {
+    let Some(lines) = arguments::lines_given(rt) else {
         return program::misused(
             rt,
             b"cardstate: the arguments are [LINES [ROM]]: interrupt lines, one or two lowercase hexadecimal digits, and the boot ROM's file\n",
         );
     };
     let mut room = [0u8; 4194305];
-    start_with(rt, input, &mut room, lines)
+    start(rt, input, &mut room, lines)
 }

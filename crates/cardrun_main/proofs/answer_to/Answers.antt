@@ -1,14 +1,12 @@
 -- The image is read, then refused or run, as the definition says.
-use borrow.Author.Tests.{eq-eqb, ne_eqb}
 use Rattle.cardrun_main.specs.Printed.{printed}
 use Rattle.cardrun_main.proofs.answer_to.Goals as goal
 
-pub returns-then-i-ne0 : goal.returns-then-i-ne0
+pub returns-in-Some : goal.returns-in-Some
 unfolding printed
-returns-then-i-ne0 c = rw (← c.read_image-i.ensures.0, ne_eqb _ _ c.if-i-ne0.true) c.refusal_text.ensures
+returns-in-Some c = rw (← c.read_image-i.ensures.0, c.in-Some.is) c.refusal_text.ensures
 
-pub returns : goal.returns
+pub returns-in-None : goal.returns-in-None
 unfolding printed
-returns c =
-    rw (← c.read_image-i.ensures.0, ← c.read_image-i.ensures.1, eq-eqb _ _ c.if-i-ne0.false, ← c.run-ran.ensures.0)
-    c.cardrun_text.ensures
+returns-in-None c =
+    rw (← c.read_image-i.ensures.0, ← c.read_image-i.ensures.1, c.in-None.is, ← c.run.ensures.0) c.cardrun_text.ensures

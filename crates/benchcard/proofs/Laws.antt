@@ -1,20 +1,20 @@
 -- A number with one digit more: what it is, and that it stays below the power of ten.
-use Rattle.std.proofs.Common.{◌≡◌, ℕ, ◌+◌, ◌*◌, ◌^◌, ◌<◌, ◌≤◌, List, length, get_or, drop, pow-suc, add-one, arith, drop-cons, le-ltb, lt-ltb}
+use Rattle.std.proofs.Common.{◌≡◌, ℕ, ◌+◌, ◌*◌, ◌^◌, ◌<◌, ◌≤◌, List, length, get_or, drop, Some, None, pow-suc, add-one, arith, drop-cons, le-ltb, lt-ltb}
 use native.Mathlib.Nat.{pow-le-pow_right}
 use lib.Seq.{drop-length}
-use Rattle.benchcard.specs.Arguments.{digit, number}
-use Rattle.benchcard.specs.declared.arguments.Steps.TheVariants.{Are, Wrong}
+use Rattle.std.specs.Char.{digit_value}
+use Rattle.benchcard.specs.Arguments.{number}
 
 module _ (x : ℕ) (word : List ℕ) (i : ℕ) where
-  pub digit_more : (d : ℕ) → i < length word → d ≡ digit (get_or word i 0) → d < 10 → number x (drop i word) ≡ number (x * 10 + d) (drop (i + 1) word)
+  pub digit_more : {b d : ℕ} → i < length word → b ≡ get_or word i 0 → digit_value b < 10 → d ≡ digit_value b → number x (drop i word) ≡ number (x * 10 + d) (drop (i + 1) word)
   unfolding number
-  digit_more d h e g = rw (drop-cons word i 0 h, ← e, lt-ltb d 10 g, add-one)
+  digit_more h e g v = rw (drop-cons word i 0 h, ← e, lt-ltb _ _ g, v, add-one)
 
-  pub no_digit : (d : ℕ) → i < length word → d ≡ digit (get_or word i 0) → 10 ≤ d → number x (drop i word) ≡ Wrong
+  pub no_digit : {b : ℕ} → i < length word → b ≡ get_or word i 0 → (digit_value b < 10 → ⊥) → number x (drop i word) ≡ None
   unfolding number
-  no_digit d h e g = rw (drop-cons word i 0 h, ← e, le-ltb d 10 g)
+  no_digit {b} h e g = let k : 10 ≤ digit_value b = omega arith in rw (drop-cons word i 0 h, ← e, le-ltb _ _ k)
 
-  pub no_more : i ≡ length word → number x (drop i word) ≡ Are x
+  pub no_more : i ≡ length word → number x (drop i word) ≡ Some x
   unfolding number
   no_more e = rw (e, drop-length)
 

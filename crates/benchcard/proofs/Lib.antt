@@ -1,3 +1,2 @@
--- How a number grows, digit by digit; two words, byte by byte.
+-- How a number grows, digit by digit.
 pub mod Laws
-pub mod Words

@@ -8,82 +8,68 @@ mod line;
 mod sweep;
 mod unaligned;
 
-use arguments::{Named, Program, Steps};
+use arguments::Program;
 use cp0::Cp0;
 use effect::Cpu;
 use memory::{PAddr, Store};
 use program::End;
 use std::env::Env;
 
+// A program's start, at the end of ROM, and its two pages.
+#[derive(Clone, Copy)]
+struct Tables {
+    start: &'static [u64],
+    user: &'static [u64],
+    other: &'static [u64],
+}
+
+const SWEEP: Tables = Tables {
+    start: &sweep::START,
+    user: &sweep::USER,
+    other: &sweep::OTHER,
+};
+
+const UNALIGNED: Tables = Tables {
+    start: &unaligned::START,
+    user: &unaligned::USER,
+    other: &unaligned::OTHER,
+};
+
 // A table's words go to memory, one after the other.
 fn poke(bytes: &mut [u8], from: u64, words: &[u64]) {
     let mut to = from;
-    let mut i: usize = 0;
-    while i < words.len() {
-        let s = Store::Write {
+    for word in words {
+        let s = Store {
             to: PAddr(to),
             size: 4,
-            value: words[i],
+            value: *word,
         };
-        memory::put_bytes(&mut *bytes, s);
-        to = std::num::wrapping_add_u64(to, 4);
-        i = i + 1;
+        let _ = memory::put_bytes(bytes, Some(s));
+        to = to.wrapping_add(4);
     }
 }
 
 // The boot ROM, the handler and a program's three tables go to ROM and RAM.
-fn put_tables(rom: &mut [u8], ram: &mut [u8], start: &[u64], user: &[u64], other: &[u64]) {
-    let boot = boot::BOOT;
-    let kernel = boot::KERNEL;
-    poke(&mut *rom, 0, &boot);
-    poke(&mut *rom, 0x88, start);
-    poke(&mut *ram, 0x180, &kernel);
-    poke(&mut *ram, 0x2000, user);
-    poke(&mut *ram, 0x3000, other);
-}
-
-fn put_sweep(rom: &mut [u8], ram: &mut [u8]) {
-    let start = sweep::START;
-    let user = sweep::USER;
-    let other = sweep::OTHER;
-    put_tables(&mut *rom, &mut *ram, &start, &user, &other);
-}
-
-fn put_unaligned(rom: &mut [u8], ram: &mut [u8]) {
-    let start = unaligned::START;
-    let user = unaligned::USER;
-    let other = unaligned::OTHER;
-    put_tables(&mut *rom, &mut *ram, &start, &user, &other);
-}
-
 fn put_program(program: Program, rom: &mut [u8], ram: &mut [u8]) {
-    match program {
-        Program::Sweep => put_sweep(&mut *rom, &mut *ram),
-        Program::Unaligned => put_unaligned(&mut *rom, &mut *ram),
-    }
+    let tables = match program {
+        Program::Sweep => SWEEP,
+        Program::Unaligned => UNALIGNED,
+    };
+    poke(rom, 0, &boot::BOOT);
+    poke(rom, 0x88, tables.start);
+    poke(ram, 0x180, &boot::KERNEL);
+    poke(ram, 0x2000, tables.user);
+    poke(ram, 0x3000, tables.other);
 }
 
 // A checksum with one value more: 31 times it, and the value.
-fn mix(x: u64, v: u64) -> u64 {
-    std::num::wrapping_add_u64(std::num::wrapping_sub_u64(x << 5, x), v)
+fn mix<T: Into<u64>>(x: u64, v: T) -> u64 {
+    x.wrapping_mul(31).wrapping_add(v.into())
 }
 
-fn mix_word(x: u64, v: u32) -> u64 {
-    mix(x, v as u64)
-}
-
-fn mix_byte(x: u64, v: u8) -> u64 {
-    mix(x, v as u64)
-}
-
-fn sum_of_registers(from: u64, regs: &[u64; 32]) -> u64 {
-    let mut x = from;
-    let mut i: usize = 0;
-    while i < 32 {
-        x = mix(x, regs[i]);
-        i = i + 1;
-    }
-    x
+// A checksum with all values of a slice.
+fn mix_all<T: Copy + Into<u64>>(from: u64, values: &[T]) -> u64 {
+    values.iter().fold(from, |x, v| mix(x, *v))
 }
 
 fn sum_of_cpu(from: u64, cpu: Cpu) -> u64 {
@@ -91,18 +77,8 @@ fn sum_of_cpu(from: u64, cpu: Cpu) -> u64 {
 }
 
 fn sum_of_cp0(from: u64, cp0: Cp0) -> u64 {
-    let x = mix_word(mix_word(mix_word(from, cp0.count), cp0.random), cp0.cause);
-    mix(mix_word(mix_word(x, cp0.compare), cp0.status), cp0.epc)
-}
-
-fn sum_of_bytes(from: u64, bytes: &[u8]) -> u64 {
-    let mut x = from;
-    let mut i: usize = 0;
-    while i < bytes.len() {
-        x = mix_byte(x, bytes[i]);
-        i = i + 1;
-    }
-    x
+    let x = mix(mix(mix(from, cp0.count), cp0.random), cp0.cause);
+    mix(mix(mix(x, cp0.compare), cp0.status), cp0.epc)
 }
 
 // Runs a program and gives the line.
@@ -112,18 +88,17 @@ fn answer<R: Print + Eprint>(rt: &R, budget: u64, program: Program) -> End {
     put_program(program, &mut rom, &mut ram);
     let r = card::run(card::fresh(), &mut ram, &rom, 0, budget);
     let m = r.machine;
-    let regs = m.regs;
-    let x = sum_of_registers(mix_byte(0, r.stop), &regs);
-    let sum = sum_of_bytes(sum_of_cp0(sum_of_cpu(x, m.cpu), m.cp0), &ram);
+    let x = mix_all(mix(0, r.stop), &m.regs);
+    let sum = mix_all(sum_of_cp0(sum_of_cpu(x, m.cpu), m.cp0), &ram);
     line::give_line(rt, r.steps, sum)
 }
 
 // Reads the arguments and answers.
 pub fn benchcard<R: Env + Print + Eprint>(rt: &R) -> End {
-    let Steps::Are(budget) = arguments::steps_given(rt) else {
+    let Some(budget) = arguments::steps_given(rt) else {
         return arguments::misused(rt);
     };
-    let Named::Is(program) = arguments::program_given(rt) else {
+    let Some(program) = arguments::program_given(rt) else {
         return arguments::misused(rt);
     };
     answer(rt, budget, program)

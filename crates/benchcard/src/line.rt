@@ -9,17 +9,9 @@ fn put(line: &mut [u8], at: usize, part: &[u8]) -> usize
     requires { at ≤ length line.old }
     ensures { IsPrefixLen result line.new }
 {
-    let mut to = at;
-    let mut i: usize = 0;
-    while i < part.len() {
-        if line.len() <= to {
-            return to;
-        }
-        line[to] = part[i];
-        to = to + 1;
-        i = i + 1;
-    }
-    to
+    let n = part.len().min(line.len() - at);
+    line[at..at + n].copy_from_slice(&part[..n]);
+    at + n
 }
 
 // Writes the line, and says how long it is.

@@ -1,10 +1,6 @@
--- The invariant: no image has gone past the file; the measure is what is left of it.
-use Prim.Native.Nat.{◌≤◌, ◌-◌}
-use lib.ListN.{length}
+-- Each image takes some of what is left.
+use Rattle.std.proofs.Common.{length}
 use Rattle.vectors.proofs.print_all.Given as goal
 
-abbrev pub invariant-loop-at : goal.invariant-loop-at
-invariant-loop-at g l = l.at ≤ length l.file
-
-abbrev pub decreases-loop-at : goal.decreases-loop-at
-decreases-loop-at g l = length l.file - l.at
+abbrev pub decreases-loop-rest : goal.decreases-loop-rest
+decreases-loop-rest g l = length l.rest

@@ -1,5 +1,5 @@
 // Products of words and doublewords, for HI and LO.
-ghost use Rattle.std.specs.Prelude.{◌≡◌, ◌*◌, ◌^◌, pos};
+ghost use Rattle.std.specs.Prelude.{◌≡◌, ◌*◌, ◌%◌, ◌^◌, pos};
 ghost use Rattle.std.specs.Int.{w32, w64};
 ghost use Rattle.word.specs.Product as Product;
 ghost use Rattle.word.specs.Word as Word;
@@ -35,11 +35,18 @@ pub fn mult(a: u64, b: u64) -> HiLo
     word_halves(p.cast_unsigned())
 }
 
+// The product of two registers, wrapped.
+fn wrapped_product(a: u64, b: u64) -> u64
+    ensures { result ≡ a * b % 2 ^ 64 }
+{
+    a.wrapping_mul(b)
+}
+
 // MULTU: the product of two words, read as unsigned.
 pub fn multu(a: u64, b: u64) -> HiLo
     ensures { result ≡ Word.multu a b }
 {
-    word_halves(low_word(a) * low_word(b))
+    word_halves(wrapped_product(low_word(a), low_word(b)))
 }
 
 // DMULT: the product of two doublewords, read as signed.

@@ -1,10 +1,7 @@
 -- What an exception writes to Cause fits its field.
-use Rattle.std.proofs.Common.{◌≡◌, ℕ, ◌/◌, ◌%◌, ◌<◌, Bool, true, false, sym, subst, arith}
-use Rattle.cp0.specs.declared.Told.{Told}
+use Rattle.std.proofs.Common.{ℕ, ◌<◌, Bool, arith}
 use Rattle.cp0.specs.declared.Exception.{Exception}
 use Rattle.cp0.specs.declared.Exception.TheVariants.{Int, Mod, TLBL, TLBS, AdEL, AdES, IBE, DBE, Sys, Bp, RI, CpU, Ov, Tr}
-use Rattle.promise.specs.Pick.{pick}
-use Rattle.cp0.specs.Status.{EXL}
 use Rattle.cp0.specs.Exceptions.{told, bd_after}
 
 -- the code has five bits and the unit two
@@ -28,9 +25,4 @@ told_fits Tr = omega arith
 -- BD has one
 pub bd_fits : (status cause : ℕ) (slot : Bool) → bd_after status cause slot < 2
 unfolding bd_after
-bd_fits status cause slot = go (EXL status) slot
-  where
-    go : (exl slot : Bool) → pick exl (cause / 2147483648 % 2) (pick slot 1 0) < 2
-    go true s = omega arith
-    go false true = omega arith
-    go false false = omega arith
+bd_fits status cause slot = grind arith

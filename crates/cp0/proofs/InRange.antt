@@ -1,5 +1,5 @@
 -- The registers in range, fact by fact; and a register that is set to what it may hold leaves them so.
-use Rattle.std.proofs.Common.{◌≡◌, ℕ, Bool, true, false, eqb, sym, refl, ap, ◌∙◌, arith, eq-eqb, eqb-true}
+use Rattle.std.proofs.Common.{◌≡◌, ℕ, Bool, true, false, eqb, sym, refl, ap, ◌∙◌, arith, eqb-true}
 use Rattle.promise.specs.Pick.{pick, both}
 use Rattle.tlb.proofs.StaysInRange.{both_true}
 use Rattle.tlb.specs.PageMask.{legal_mask}
@@ -59,18 +59,7 @@ module _ (c : Cp0) where
 
   pub range_made : InRange c → cp0_in_range c ≡ true
   unfolding cp0_in_range entries_in_range control_in_range
-  range_made h =
-      join _ _
-      (join _ _ (eq-eqb _ _ h.index_in)
-      (join _ _ (eq-eqb _ _ h.entrylo0_in)
-      (join _ _ (eq-eqb _ _ h.entrylo1_in)
-      (join _ _ (eq-eqb _ _ h.context_in)
-      (join _ _ (eq-eqb _ _ h.wired_in)
-      (join _ _ (eq-eqb _ _ h.entryhi_in) h.pagemask_in))))))
-      (join _ _ h.random_in
-      (join _ _ h.status_in
-      (join _ _ (eq-eqb _ _ h.cause_in)
-      (join _ _ h.config_in (eq-eqb _ _ h.prid_in)))))
+  range_made h = grind arith
 
 -- what a register may hold, but for Random and Wired together
 unfoldable pub may : ℕ → ℕ → Bool

@@ -1,5 +1,5 @@
 -- A move of a value that is built leaves the registers in range.
-use Rattle.std.proofs.Common.{◌≡◌, Result, Ok, Err, ℕ, ◌+◌, ◌*◌, ◌/◌, ◌%◌, ◌^◌, ◌≤◌, Bool, true, false, eqb, leb, sym, refl, ap, ◌∙◌, subst, arith, eq-eqb, eqb-true, le-leb, leb-true}
+use Rattle.std.proofs.Common.{◌≡◌, Result, Ok, Err, ℕ, ◌+◌, ◌*◌, ◌/◌, ◌%◌, ◌^◌, Bool, true, false, eqb, sym, refl, ap, ◌∙◌, subst, arith, eq-eqb, eqb-true}
 use Rattle.promise.specs.Pick.{pick}
 use Rattle.promise.specs.Bits.{bits}
 use Rattle.tlb.specs.PageMask.{legal_mask}
@@ -11,16 +11,12 @@ use Rattle.cp0.specs.Range.{config_in_range, cp0_in_range}
 use Rattle.cp0.proofs.KeptBits.{index_kept, entrylo_kept, wired_kept, entryhi_kept, context_moved, cause_untimed, cause_moved}
 use Rattle.cp0.proofs.StatusRange.{status_moved}
 use Rattle.cp0.proofs.KeepsRandom.{top_in}
-use Rattle.cp0.proofs.InRange.{InRange, range_read, range_made, may, set_in, split, join}
+use Rattle.cp0.proofs.InRange.{InRange, range_read, range_made, may, set_in}
 
 -- Config with three new low bits
 config_moved : (x w : ℕ) → config_in_range x ≡ true → config_in_range (x / 2 ^ 3 * 2 ^ 3 + w % 2 ^ 3) ≡ true
 unfolding config_in_range
-config_moved x w h =
-    let (p, q) = split (leb 0x8000 x) (leb x 0x8007) h in
-    let l : 0x8000 ≤ x = leb-true _ _ p in
-    let m : x ≤ 0x8007 = leb-true _ _ q in
-    join _ _ (le-leb 0x8000 (x / 2 ^ 3 * 2 ^ 3 + w % 2 ^ 3) (omega arith)) (le-leb (x / 2 ^ 3 * 2 ^ 3 + w % 2 ^ 3) 0x8007 (omega arith))
+config_moved x w h = grind arith
 
 -- by the number: at k what holds there, else what holds where it is not k
 at : (P : ℕ → Type 0) (n k : ℕ) → (n ≡ k → P k) → (eqb n k ≡ false → P n) → P n
@@ -67,8 +63,7 @@ module _ (c : Cp0) (r : InRange c) where
 
 -- what a built move says of its value
 if_built : (b : Bool) → ◌≡◌ {A = Result Unit NotBuilt} (pick b (Ok tt) (Err not_built)) (Ok tt) → b ≡ true
-if_built true h = refl
-if_built false h = let z : ◌≡◌ {A = ℕ} 0 1 = cc in absurd (omega arith)
+if_built b h = grind arith
 
 status_built : (n v : ℕ) → check_move n v ≡ Ok tt → n ≡ Status → built_status (low v) ≡ true
 unfolding check_move

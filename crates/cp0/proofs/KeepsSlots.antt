@@ -1,10 +1,9 @@
 -- TLBR of a slot in range leaves the registers in range.
-use Rattle.std.proofs.Common.{◌≡◌, ℕ, ◌+◌, ◌*◌, ◌%◌, ◌^◌, true, eqb, arith, eq-eqb, eqb-true}
-use lib.Count.{ones}
+use Rattle.std.proofs.Common.{◌≡◌, ℕ, ◌+◌, ◌*◌, ◌^◌, true, arith, eq-eqb}
 use Rattle.promise.specs.Pick.{both}
 use Rattle.promise.specs.Bits.{bit}
 use Rattle.tlb.specs.declared.Slot.{Slot}
-use Rattle.tlb.specs.PageMask.{run, trailing_ones, legal_mask}
+use Rattle.tlb.specs.PageMask.{legal_mask}
 use Rattle.tlb.specs.Slot.{page, asid_of, without_g, shown}
 use Rattle.tlb.specs.Range.{hi_in_range, lo_in_range, slot_in_range}
 use Rattle.cp0.specs.declared.Cp0.{Cp0}
@@ -15,9 +14,7 @@ use Rattle.cp0.proofs.InRange.{range_read, range_made, may, set_in, split}
 -- a legal mask is a word
 mask_low : (m : ℕ) → legal_mask m ≡ true → low m ≡ m
 unfolding legal_mask
-mask_low m h =
-    let e : m ≡ run m * 2 ^ 13 = eqb-true _ _ (split (eqb m (run m * 2 ^ 13)) (both (eqb (ones (run m)) (trailing_ones (run m))) (eqb (ones (run m) % 2) 0)) h).0 in
-    omega arith
+mask_low m h = grind arith
 
 mask_in : (m : ℕ) → legal_mask m ≡ true → legal_mask (low m) ≡ true
 mask_in m h = rw (mask_low m h) h

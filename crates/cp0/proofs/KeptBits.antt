@@ -1,5 +1,5 @@
 -- What a register keeps of a value, it keeps of what a move, an exception, ERET or the timer makes of it.
-use Rattle.std.proofs.Common.{◌≡◌, ℕ, ◌+◌, ◌*◌, ◌/◌, ◌%◌, ◌^◌, ◌<◌, true, false, eqb, sym, ◌∙◌, subst, arith, eq-eqb, ne_eqb}
+use Rattle.std.proofs.Common.{◌≡◌, ℕ, ◌+◌, ◌*◌, ◌/◌, ◌%◌, ◌^◌, ◌<◌, sym, subst, arith}
 use Rattle.promise.specs.Bits.{bits}
 use Rattle.cp0.specs.Registers.{only, replaced, cleared, kept_index, kept_entry_lo, kept_wired, kept_entry_hi, kept_context, kept_status, kept_cause}
 use Rattle.cp0.specs.Exceptions.{cause_after}

@@ -1,6 +1,5 @@
 -- What isolation rests on: an exception leads out of User mode and keeps the ASID; the end of a step and LL change neither.
-use Rattle.std.proofs.Common.{Option, None, Some, ◌≡◌, ℕ, ◌/◌, ◌%◌, ◌^◌, Bool, true, false, eqb, refl, ap, ◌∙◌, arith, eq-eqb}
-use Rattle.promise.specs.Pick.{both, either, not}
+use Rattle.std.proofs.Common.{Option, None, Some, ◌≡◌, ℕ, ◌/◌, ◌%◌, ◌^◌, Bool, true, false, refl, ap, ◌∙◌, arith, eq-eqb}
 use Rattle.memory.specs.declared.PAddr.{PAddr}
 use Rattle.tlb.specs.declared.Mode.TheVariants.{User}
 use Rattle.cp0.specs.declared.Cp0.{Cp0}
@@ -8,7 +7,7 @@ use Rattle.cp0.specs.declared.Bad.{Bad}
 use Rattle.cp0.specs.declared.Bad.TheVariants.{Address, Page}
 use Rattle.cp0.specs.declared.Exception.{Exception}
 use Rattle.cp0.specs.Registers.{set, replaced, linked}
-use Rattle.cp0.specs.Status.{KSU, ERL, EXL, user, mode_of}
+use Rattle.cp0.specs.Status.{EXL, user, mode_of}
 use Rattle.cp0.specs.Exceptions.{told, addressed, entered}
 use Rattle.cp0.specs.Tick.{ended}
 
@@ -20,12 +19,7 @@ mode_user status h = rw h
 -- with EXL set it is not User mode
 not_user : (status : ℕ) → EXL status ≡ true → user status ≡ false
 unfolding user
-not_user status h = go (eqb (KSU status) 2) (EXL status) h
-  where
-    go : (k x : Bool) → x ≡ true → both k (not (either x (ERL status))) ≡ false
-    go true true p = refl
-    go true false p = let z : ◌≡◌ {A = ℕ} 0 1 = cc in absurd (omega arith)
-    go false x p = refl
+not_user status h = grind arith
 
 addressed_status : (c : Cp0) (b : Option Bad) → (addressed c b).status ≡ c.status
 unfolding addressed set

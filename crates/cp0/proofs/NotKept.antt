@@ -1,5 +1,5 @@
 -- A register that is not kept reads 0 and drops writes (T12): its number is none of those that the moves ask for.
-use Rattle.std.proofs.Common.{◌≡◌, ℕ, Bool, true, false, eqb, leb, sym, refl, ap, ◌∙◌, arith, ne_eqb}
+use Rattle.std.proofs.Common.{◌≡◌, ℕ, true, false, eqb, leb, refl, arith}
 use Rattle.promise.specs.Pick.{both, either}
 use Rattle.word.specs.Extend.{extend}
 use Rattle.cp0.specs.declared.Cp0.{Cp0}
@@ -12,7 +12,7 @@ unfolding kept?
 kept_is n = refl
 
 other : (n k : ℕ) → kept? n ≡ false → kept? k ≡ true → eqb n k ≡ false
-other n k h p = ne_eqb n k (λ e. let z : ◌≡◌ {A = Bool} true false = sym p ∙ ap kept? (sym e) ∙ h in let y : ◌≡◌ {A = ℕ} 0 1 = cc in absurd (omega arith))
+other n k h p = grind arith
 
 module _ (c : Cp0) (n : ℕ) (h : kept? n ≡ false) where
   pub not_kept_reads : (lines : ℕ) → move_out c lines n ≡ 0

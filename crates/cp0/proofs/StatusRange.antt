@@ -1,9 +1,9 @@
 -- Status stays in range where its low five bits change and KSU does not, and a moved value that is built is in range.
-use Rattle.std.proofs.Common.{◌≡◌, ℕ, ◌+◌, ◌*◌, ◌/◌, ◌%◌, ◌^◌, ◌<◌, Bool, true, false, eqb, sym, ap, ◌∙◌, arith, eq-eqb, eqb-true}
-use Rattle.promise.specs.Pick.{pick, both, either, not}
+use Rattle.std.proofs.Common.{◌≡◌, ℕ, ◌+◌, ◌*◌, ◌/◌, ◌%◌, ◌^◌, ◌<◌, Bool, true, eqb, sym, ◌∙◌, arith, eq-eqb, eqb-true}
+use Rattle.promise.specs.Pick.{both, either, not}
 use Rattle.promise.specs.Bits.{bits}
 use Rattle.cp0.specs.Registers.{replaced, cleared, kept_status}
-use Rattle.cp0.specs.Status.{KSU, ERL}
+use Rattle.cp0.specs.Status.{KSU}
 use Rattle.cp0.specs.Moves.{built_status}
 use Rattle.cp0.specs.Exceptions.{status_returned}
 use Rattle.cp0.specs.Range.{status_in_range}
@@ -19,9 +19,7 @@ same_built : (p q r k p' q' r' k' : ℕ) → p' ≡ p → q' ≡ q → r' ≡ r 
 same_built p q r k p' q' r' k' hp hq hr hk h = rw (hp, hq, hr, hk) h
 
 ksu_built : (p q r k : ℕ) → built_of p q r k ≡ true → built_of 0 0 0 k ≡ true
-ksu_built p q r k h =
-    let ksu : Bool = not (either (eqb k 1) (eqb k 3)) in
-    (split (eqb r 0) ksu (split (eqb q 0) (both (eqb r 0) ksu) (split (eqb p 0) (both (eqb q 0) (both (eqb r 0) ksu)) h).1).1).1
+ksu_built p q r k h = grind arith
 
 -- the fields that are not kept are 0 in what is kept
 module _ (a b c d : ℕ) (h : a < 2) (i : b < 2) (j : c < 256) (k : d < 32) where
@@ -63,14 +61,10 @@ module _ (s t : ℕ) (k : t < 32) (ksu : t / 2 ^ 3 ≡ s / 2 ^ 3 % 4) where
   whole = omega arith
 
   cu_five : (s / 2 ^ 5 * 2 ^ 5 + t) / 2 ^ 29 % 8 ≡ s / 2 ^ 29 % 8
-  cu_five =
-      ap (λ (x : ℕ). x % 8)
-      (above_cu (s / 2 ^ 5) t k ∙ sym (above_cu (s / 2 ^ 5) (s % 2 ^ 5) (omega arith)) ∙ ap (λ (x : ℕ). x / 2 ^ 29) whole)
+  cu_five = grind arith
 
   re_five : (s / 2 ^ 5 * 2 ^ 5 + t) / 2 ^ 25 % 2 ≡ s / 2 ^ 25 % 2
-  re_five =
-      ap (λ (x : ℕ). x % 2)
-      (above_re (s / 2 ^ 5) t k ∙ sym (above_re (s / 2 ^ 5) (s % 2 ^ 5) (omega arith)) ∙ ap (λ (x : ℕ). x / 2 ^ 25) whole)
+  re_five = grind arith
 
   kx_five : (s / 2 ^ 5 * 2 ^ 5 + t) / 2 ^ 5 % 8 ≡ s / 2 ^ 5 % 8
   kx_five = omega arith
@@ -90,18 +84,11 @@ quarter : (q y : ℕ) → y < 4 → (q * 2 ^ 2 + y) / 2 ^ 3 ≡ q / 2
 quarter q y k = omega arith
 
 ksu_kept : (s y : ℕ) → y < 4 → (s % 2 ^ 5 / 2 ^ 2 * 2 ^ 2 + y) / 2 ^ 3 ≡ s / 2 ^ 3 % 4
-ksu_kept s y k =
-    let q : ℕ = s % 2 ^ 5 / 2 ^ 2 in
-    let whole : q * 2 ^ 2 + s % 2 ^ 5 % 2 ^ 2 ≡ s % 2 ^ 5 = omega arith in
-    let ksu : s % 2 ^ 5 / 2 ^ 3 ≡ s / 2 ^ 3 % 4 = omega arith in
-    quarter q y k ∙ sym (quarter q (s % 2 ^ 5 % 2 ^ 2) (omega arith)) ∙ ap (λ (x : ℕ). x / 2 ^ 3) whole ∙ ksu
+ksu_kept s y k = grind arith
 
 -- and so does a change of the low three
 ksu_left : (s y : ℕ) → y < 8 → (s % 2 ^ 5 / 2 ^ 3 * 2 ^ 3 + y) / 2 ^ 3 ≡ s / 2 ^ 3 % 4
-ksu_left s y k =
-    let eighth : (q : ℕ) → (q * 2 ^ 3 + y) / 2 ^ 3 ≡ q = λ q. omega arith in
-    let ksu : s % 2 ^ 5 / 2 ^ 3 ≡ s / 2 ^ 3 % 4 = omega arith in
-    eighth (s % 2 ^ 5 / 2 ^ 3) ∙ ksu
+ksu_left s y k = grind arith
 
 -- EXL set, ERL cleared, EXL cleared
 module _ (s : ℕ) (h : status_in_range s ≡ true) where
@@ -119,8 +106,4 @@ module _ (s : ℕ) (h : status_in_range s ≡ true) where
 
   pub status_returned_lem : status_in_range (status_returned s) ≡ true
   unfolding status_returned
-  status_returned_lem = go (ERL s)
-    where
-      go : (b : Bool) → status_in_range (pick b (cleared s 2 1) (cleared s 1 1)) ≡ true
-      go true = rw erl_clear (five_in s (s % 2 ^ 5 / 2 ^ 3 * 2 ^ 3 + s % 2 ^ 2) (omega arith) (ksu_left s (s % 2 ^ 2) (omega arith)) h)
-      go false = rw exl_clear (five_in s (s % 2 ^ 5 / 2 ^ 2 * 2 ^ 2 + s % 2) (omega arith) (ksu_kept s (s % 2) (omega arith)) h)
+  status_returned_lem = grind (arith, erl_clear, exl_clear, five_in s (s % 2 ^ 5 / 2 ^ 3 * 2 ^ 3 + s % 2 ^ 2) (omega arith) (ksu_left s (s % 2 ^ 2) (omega arith)) h, five_in s (s % 2 ^ 5 / 2 ^ 2 * 2 ^ 2 + s % 2) (omega arith) (ksu_kept s (s % 2) (omega arith)) h)

@@ -4,12 +4,11 @@ use mathlib.Core.Path.{◌≡◌, refl, sym, ap, ap₂, ◌∙◌}
 use mathlib.Core.Bool.{Bool}
 use native.Mathlib.Nat.{mod-one, pow-suc}
 use native.Mathlib.Omega.{arith}
-use native.Mathlib.Decide.{ℕ_discrete}
 use native.Mathlib.Numerals.{add-one}
 use lib.Bits.{bit_and, bit_xor, and_shr, xor_shr, and_mod, xor_mod}
 use lib.Dec.{eqb}
 use lib.Pow.{pow_pos, mod-pow-add}
-use borrow.Author.Tests.{eq-eqb, ne_eqb}
+use borrow.Author.Tests.{eq-eqb}
 use Rattle.promise.specs.Pick.{both, either}
 use Rattle.tlb.specs.Match.{agree}
 
@@ -33,12 +32,7 @@ at_bit a b m ha hb hm =
 
 -- a number is zero where its low bit and the rest are
 in_two : (y d : ℕ) → eqb (y * 2 + d) 0 ≡ both (eqb d 0) (eqb y 0)
-in_two y d = go (ℕ_discrete d 0) (ℕ_discrete y 0)
-  where
-    go : Dec (d ≡ 0) → Dec (y ≡ 0) → eqb (y * 2 + d) 0 ≡ both (eqb d 0) (eqb y 0)
-    go (yes e) (yes f) = rw (e, f)
-    go (yes e) (no f) = let g : y * 2 + d ≡ 0 → ⊥ = λ z. f (omega arith) in rw (ne_eqb (y * 2 + d) 0 g, eq-eqb d 0 e, ne_eqb y 0 f)
-    go (no e) f = let g : y * 2 + d ≡ 0 → ⊥ = λ z. e (omega arith) in rw (ne_eqb (y * 2 + d) 0 g, ne_eqb d 0 e)
+in_two y d = grind arith
 
 -- what the code computes: the difference without the masked bits, cut to the width
 abbrev left : ℕ → ℕ → ℕ → ℕ → ℕ

@@ -15,11 +15,7 @@ use Rattle.tlb.proofs.StaysInRange.{both_true}
 
 four : (k : ℕ) → 2 ^ (2 * k) ≡ 4 ^ k
 four zero = refl
-four (suc k) =
-    let e : 2 * suc k ≡ 2 * k + 2 = omega arith in
-    let p : 2 ^ (2 * k + 2) ≡ 2 ^ (2 * k) * 2 ^ 2 = pow-add 2 (2 * k) 2 in
-    let q : 4 ^ suc k ≡ 4 ^ k * 4 = pow-suc 4 k in
-    rw (e, p, four k) (sym q)
+four (suc k) = grind (arith, four k, pow-suc 4 k, pow-add 2 (2 * k) 2)
 
 pub legal_size : (mask : ℕ) → legal_mask mask ≡ true → Size mask
 unfolding legal_mask trailing_ones page_bits

@@ -1,14 +1,12 @@
 -- Where an address leads depends on its 4 KiB page alone: mapped addresses of one page go through the same half to one physical page, unmapped ones lie side by side.
-use Prim.Native.Nat.{ℕ, zero, suc, ◌+◌, ◌*◌, ◌/◌, ◌%◌, ◌^◌, ◌<◌}
+use Prim.Native.Nat.{ℕ, zero, suc, ◌+◌, ◌*◌, ◌/◌, ◌%◌, ◌^◌}
 use mathlib.Core.Path.{◌≡◌, refl, sym, ap, ap₂, ◌∙◌}
 use mathlib.Core.Bool.{Bool, true, false}
 use mathlib.Core.List.{List}
 use native.Mathlib.Nat.{add_comm}
-use native.Mathlib.Decide.{dec_lt}
 use native.Mathlib.Omega.{arith}
 use lib.Dec.{ltb}
 use lib.Pow.{mod-pow-add, pow-add, shr-shr}
-use borrow.Author.Tests.{lt-ltb, le-ltb}
 use Rattle.promise.specs.Pick.{pick}
 use Rattle.memory.specs.declared.PAddr.{PAddr}
 use Rattle.tlb.specs.declared.VAddr.{VAddr}
@@ -16,14 +14,13 @@ use Rattle.tlb.specs.declared.Half.{Half}
 use Rattle.tlb.specs.declared.Found.{Found}
 use Rattle.tlb.specs.declared.Found.TheVariants.{Absent, One, Many}
 use Rattle.tlb.specs.declared.Mode.{Mode}
-use Rattle.tlb.specs.declared.Mode.TheVariants.{User, Kernel, Error}
 use Rattle.tlb.specs.declared.Where.{Where}
 use Rattle.tlb.specs.declared.Where.TheVariants.{Mapped}
 use Rattle.tlb.specs.PageMask.{trailing_ones, run, page_bits}
-use Rattle.tlb.specs.Slot.{slot_at, frame, valid_of}
+use Rattle.tlb.specs.Slot.{slot_at, frame}
 use Rattle.tlb.specs.Match.{hits, matches_at, more, seek, lookup}
 use Rattle.tlb.specs.SamePage.{SamePage, toward}
-use Rattle.tlb.specs.Translate.{vaddr, paddr, physical, odd_of, lo_of, through, through_slot, through_found, mapped}
+use Rattle.tlb.specs.Translate.{vaddr, physical, odd_of, lo_of, through, through_slot, through_found, mapped}
 use Rattle.tlb.specs.Segments.{word, upper, segment}
 
 module _ (v w : VAddr) (same : SamePage v w) where
@@ -68,18 +65,11 @@ split mask lo v =
 
 module _ (v w : VAddr) (same : SamePage v w) where
   physical_near : (mask lo : ℕ) → physical mask lo w.0 ≡ physical mask lo v.0 / 2 ^ 12 * 2 ^ 12 + w.0 % 2 ^ 12
-  physical_near mask lo =
-      let a = split mask lo v.0 in
-      let b : physical mask lo w.0 ≡ above mask lo (v.0 / 2 ^ 12) * 2 ^ 12 + w.0 % 2 ^ 12 = rw same (split mask lo w.0) in
-      omega arith
+  physical_near mask lo = grind (arith, split mask lo v.0, split mask lo w.0)
 
   through_near : (mask i odd lo : ℕ) → through mask i odd lo w.0 ≡ toward w (through mask i odd lo v.0)
   unfolding through toward
-  through_near mask i odd lo = go (valid_of lo) refl
-    where
-      go : (b : Bool) → valid_of lo ≡ b → through mask i odd lo w.0 ≡ toward w (through mask i odd lo v.0)
-      go true e = rw (e, physical_near mask lo)
-      go false e = rw e
+  through_near mask i odd lo = grind (arith, physical_near)
 
   found_near : (tlb : List ℕ) (f : Found) → through_found tlb w f ≡ toward w (through_found tlb v f)
   unfolding through_found through_slot toward
@@ -94,11 +84,7 @@ module _ (v w : VAddr) (same : SamePage v w) where
 
   -- no segment begins within a page
   limit_near : (k : ℕ) → ltb (word v) (k * 2 ^ 12) ≡ ltb (word w) (k * 2 ^ 12)
-  limit_near k = go (dec_lt (word v) (k * 2 ^ 12))
-    where
-      go : Dec (word v < k * 2 ^ 12) → ltb (word v) (k * 2 ^ 12) ≡ ltb (word w) (k * 2 ^ 12)
-      go (yes h) = lt-ltb (word v) (k * 2 ^ 12) h ∙ sym (lt-ltb (word w) (k * 2 ^ 12) (omega arith))
-      go (no n) = le-ltb (word v) (k * 2 ^ 12) (omega arith) ∙ sym (le-ltb (word w) (k * 2 ^ 12) (omega arith))
+  limit_near k = grind arith
 
   toward_pick : (b : Bool) (x y : Where) → toward w (pick b x y) ≡ pick b (toward w x) (toward w y)
   toward_pick true x y = refl
@@ -106,48 +92,25 @@ module _ (v w : VAddr) (same : SamePage v w) where
 
   upper_near : (tlb : List ℕ) (asid : ℕ) → upper asid tlb w ≡ toward w (upper asid tlb v)
   unfolding upper toward
-  upper_near tlb asid =
-      let e : word w % 2 ^ 29 ≡ word v % 2 ^ 29 / 2 ^ 12 * 2 ^ 12 + w.0 % 2 ^ 12 = omega arith in
-      rw (toward_pick (ltb (word v) 0xc0000000), limit_near 0xc0000, e, mapped_near tlb asid)
+  upper_near tlb asid = grind (arith, mapped_near tlb asid, limit_near 0xc0000)
 
   -- so it is in every segment, mapped or not
   pub segment_near : (mode : Mode) (tlb : List ℕ) (asid : ℕ) → segment mode asid tlb w ≡ toward w (segment mode asid tlb v)
   unfolding segment toward
-  segment_near User tlb asid = rw (toward_pick (ltb (word v) 0x80000000), limit_near 0x80000, mapped_near tlb asid)
-  segment_near Kernel tlb asid = rw (toward_pick (ltb (word v) 0x80000000), limit_near 0x80000, mapped_near tlb asid, upper_near tlb asid)
-  segment_near Error tlb asid =
-      let e : word w ≡ word v / 2 ^ 12 * 2 ^ 12 + w.0 % 2 ^ 12 = omega arith in
-      rw (toward_pick (ltb (word v) 0x80000000), limit_near 0x80000, e, upper_near tlb asid)
+  segment_near mode tlb asid = grind (arith, mapped_near tlb asid, upper_near tlb asid, limit_near 0x80000)
 
 -- the physical address keeps the offset in 4 KiB
 through_offset : (mask i odd lo v : ℕ) (p : PAddr) (h : Half) → through mask i odd lo v ≡ Mapped p h → p.0 % 2 ^ 12 ≡ v % 2 ^ 12
 unfolding through
-through_offset mask i odd lo v p h e = go (valid_of lo) refl
-  where
-    go : (b : Bool) → valid_of lo ≡ b → p.0 % 2 ^ 12 ≡ v % 2 ^ 12
-    go true t =
-        let q : paddr (physical mask lo v) ≡ p = cc in
-        let r : physical mask lo v ≡ p.0 = ap (λ (x : PAddr). x.0) q in
-        let s = split mask lo v in
-        omega arith
-    go false t = let z : ◌≡◌ {A = ℕ} 0 1 = cc in absurd (omega arith)
+through_offset mask i odd lo v p h e = grind (arith, split mask lo v)
 
 pub mapped_offset : (tlb : List ℕ) (asid : ℕ) (v : VAddr) (p : PAddr) (h : Half) → mapped tlb asid v ≡ Mapped p h → p.0 % 2 ^ 12 ≡ v.0 % 2 ^ 12
 unfolding mapped through_found through_slot
-mapped_offset tlb asid v p h e = go (lookup tlb asid v) e
-  where
-    go : (f : Found) → through_found tlb v f ≡ Mapped p h → p.0 % 2 ^ 12 ≡ v.0 % 2 ^ 12
-    go Absent d = let z : ◌≡◌ {A = ℕ} 0 1 = cc in absurd (omega arith)
-    go (One i) d = through_offset (slot_at tlb i).mask i (odd_of (slot_at tlb i).mask v.0) (lo_of (slot_at tlb i) (odd_of (slot_at tlb i).mask v.0)) v.0 p h d
-    go Many d = let z : ◌≡◌ {A = ℕ} 0 1 = cc in absurd (omega arith)
+mapped_offset tlb asid v p h e = grind (arith, through_offset)
 
 -- so a neighbour of p in its aligned eight bytes is where the like neighbour of v leads
 pub mapped_eight : (tlb : List ℕ) (asid : ℕ) (v : VAddr) (p q : PAddr) (h : Half) → mapped tlb asid v ≡ Mapped p h → q.0 / 8 ≡ p.0 / 8
     → mapped tlb asid (vaddr (v.0 / 8 * 8 + q.0 % 8)) ≡ Mapped q h
 unfolding toward
 mapped_eight tlb asid v p q h e near =
-    let w : VAddr = vaddr (v.0 / 8 * 8 + q.0 % 8) in
-    let same : SamePage v w = omega arith in
-    let o : p.0 % 2 ^ 12 ≡ v.0 % 2 ^ 12 = mapped_offset tlb asid v p h e in
-    let l : p.0 / 2 ^ 12 * 2 ^ 12 + w.0 % 2 ^ 12 ≡ q.0 = omega arith in
-    mapped_near v w same tlb asid ∙ rw (e, l)
+    grind (arith, mapped_near v (vaddr (v.0 / 8 * 8 + q.0 % 8)) (omega arith) tlb asid, mapped_offset tlb asid v p h e)

@@ -23,18 +23,11 @@ bit_cases x = by_bit (λ (b : ℕ). (b ≡ 0) ⊎ (b ≡ 1)) (inl refl) (inr ref
 module _ (k x : ℕ) (h : x < 2 ^ suc k) where
   run_even : x % 2 ≡ 0 → run_of (suc k) x ≡ 0
   unfolding count_trailing_zeros
-  run_even e =
-      let p : 2 ^ suc k ≡ 2 ^ k * 2 = pow-suc 2 k in
-      let o : (2 ^ suc k - 1 - x) % 2 ≡ 1 = omega arith in
-      rw o
+  run_even e = grind (arith, pow-suc 2 k)
 
   run_odd : x % 2 ≡ 1 → run_of (suc k) x ≡ suc (run_of k (x / 2))
   unfolding count_trailing_zeros
-  run_odd e =
-      let p : 2 ^ suc k ≡ 2 ^ k * 2 = pow-suc 2 k in
-      let o : (2 ^ suc k - 1 - x) % 2 ≡ 0 = omega arith in
-      let r : (2 ^ suc k - 1 - x) / 2 ≡ 2 ^ k - 1 - x / 2 = omega arith in
-      rw (o, r)
+  run_odd e = grind (arith, pow-suc 2 k)
 
   half_below : x / 2 < 2 ^ k
   half_below = let p : 2 ^ suc k ≡ 2 ^ k * 2 = pow-suc 2 k in omega arith
@@ -42,22 +35,12 @@ module _ (k x : ℕ) (h : x < 2 ^ suc k) where
 -- the run is no longer than the ones are many
 run_le_ones : (k x : ℕ) → x < 2 ^ k → run_of k x ≤ ones x
 run_le_ones zero x h = let e = trailing_le 0 (2 ^ 0 - 1 - x) in omega arith
-run_le_ones (suc k) x h = go (run_le_ones k (x / 2) (half_below k x h)) (bit_cases x)
-  where
-    go : run_of k (x / 2) ≤ ones (x / 2) → (x % 2 ≡ 0) ⊎ (x % 2 ≡ 1) → run_of (suc k) x ≤ ones x
-    go i (inl e) = let r = run_even k x h e in omega arith
-    go i (inr e) =
-        let r = run_odd k x h e in
-        let s : ones x ≡ x % 2 + ones (x / 2) = ones_step x in
-        omega arith
+run_le_ones (suc k) x h = grind (arith, run_le_ones k (x / 2) (half_below k x h), run_even k x h, run_odd k x h, ones_step x)
 
 -- a number without ones is zero
 no_ones : (k x : ℕ) → x < 2 ^ k → ones x ≡ 0 → x ≡ 0
 no_ones zero x h e = omega arith
-no_ones (suc k) x h e =
-    let s : ones x ≡ x % 2 + ones (x / 2) = ones_step x in
-    let i = no_ones k (x / 2) (half_below k x h) (omega arith) in
-    omega arith
+no_ones (suc k) x h e = grind (arith, ones_step x, no_ones k (x / 2) (half_below k x h))
 
 -- where all ones stand in the run, the number is that run
 pub all_in_run : (k x : ℕ) → x < 2 ^ k → ones x ≡ run_of k x → x + 1 ≡ 2 ^ ones x

@@ -11,10 +11,7 @@ use Rattle.tlb.specs.Match.{more, matches_at, seek}
 -- slots are looked at one stretch after the other
 pub seek_on : (a b i : ℕ) (tlb : List ℕ) (asid : ℕ) (v : VAddr) (f : Found) → seek b (i + a) tlb asid v (seek a i tlb asid v f) ≡ seek (a + b) i tlb asid v f
 unfolding seek
-seek_on zero b i tlb asid v f =
-    let e : i + 0 ≡ i = omega arith in
-    let k : 0 + b ≡ b = omega arith in
-    rw (e, k)
+seek_on zero b i tlb asid v f = grind arith
 seek_on (suc a) b i tlb asid v f =
     let e : i + suc a ≡ i + 1 + a = omega arith in
     let k : suc a + b ≡ suc (a + b) = omega arith in
@@ -22,8 +19,4 @@ seek_on (suc a) b i tlb asid v f =
 
 -- four slots more than those of the turns so far
 pub four_more : (turn : ℕ) (tlb : List ℕ) (asid : ℕ) (v : VAddr) → seek 4 (turn * 4) tlb asid v (seek (turn * 4) 0 tlb asid v Absent) ≡ seek ((turn + 1) * 4) 0 tlb asid v Absent
-four_more turn tlb asid v =
-    let e : 0 + turn * 4 ≡ turn * 4 = omega arith in
-    let k : turn * 4 + 4 ≡ (turn + 1) * 4 = omega arith in
-    let h = seek_on (turn * 4) 4 0 tlb asid v Absent in
-    rw (e, k) at h
+four_more turn tlb asid v = grind (arith, seek_on (turn * 4) 4 0 tlb asid v Absent)

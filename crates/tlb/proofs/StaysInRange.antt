@@ -4,15 +4,13 @@ use mathlib.Core.Path.{◌≡◌, refl, ap, ◌∙◌}
 use mathlib.Core.Bool.{Bool, true, false}
 use mathlib.Core.List.{List}
 use Rattle.std.specs.Prelude.{Option, None, Some}
-use mathlib.Core.Logic.{◌⊎◌, inl, inr}
+use mathlib.Core.Logic.{◌⊎◌}
 use native.Mathlib.Decide.{ℕ_discrete}
 use native.Mathlib.Nat.{pow-suc}
 use native.Mathlib.Omega.{arith}
 use lib.Bits.{bit_and, and_zero_r, and_shr, and_mod}
-use lib.Dec.{eqb}
 use lib.ListN.{length}
-use borrow.Author.Tests.{lt-ltb}
-use Rattle.promise.specs.Pick.{pick, both}
+use Rattle.promise.specs.Pick.{both}
 use Rattle.tlb.specs.declared.Slot.{Slot}
 use Rattle.tlb.specs.declared.SlotWrite.{SlotWrite}
 use Rattle.tlb.specs.PageMask.{run, legal_mask}
@@ -55,29 +53,16 @@ cleared_gone mask p = gone 19 p (run mask) (omega arith)
 
 global_cases : (a b : ℕ) → (both_global a b ≡ 0) ⊎ (both_global a b ≡ 2 ^ 12)
 unfolding both_global
-global_cases a b = go (both (eqb (a % 2) 1) (eqb (b % 2) 1))
-  where
-    go : (t : Bool) → (pick t (2 ^ 12) 0 ≡ 0) ⊎ (pick t (2 ^ 12) 0 ≡ 2 ^ 12)
-    go true = inr refl
-    go false = inl refl
+global_cases a b = grind arith
 
 -- page, G and ASID together
 hi_in_range_lem : (mask c g a : ℕ) → c < 2 ^ 19 → (g ≡ 0) ⊎ (g ≡ 2 ^ 12) → a < 2 ^ 8 → bit_and c (run mask) ≡ 0 → hi_in_range mask (c * 2 ^ 13 + g + a) ≡ true
 unfolding hi_in_range
-hi_in_range_lem mask c g a hc hg ha e =
-    let h : (c * 2 ^ 13 + g + a < 2 ^ 32) × ((c * 2 ^ 13 + g + a) / 2 ^ 8 % 2 ^ 4 ≡ 0) × ((c * 2 ^ 13 + g + a) / 2 ^ 13 % 2 ^ 19 ≡ c) = go hg in
-    rw (lt-ltb _ _ h.0, h.1, h.2, e)
-  where
-    go : (g ≡ 0) ⊎ (g ≡ 2 ^ 12) → (c * 2 ^ 13 + g + a < 2 ^ 32) × ((c * 2 ^ 13 + g + a) / 2 ^ 8 % 2 ^ 4 ≡ 0) × ((c * 2 ^ 13 + g + a) / 2 ^ 13 % 2 ^ 19 ≡ c)
-    go (inl z) = (omega arith, omega arith, omega arith)
-    go (inr z) = (omega arith, omega arith, omega arith)
+hi_in_range_lem mask c g a hc hg ha e = grind arith
 
 lo_in_range_lem : (lo : ℕ) → lo_in_range (without_g lo) ≡ true
 unfolding lo_in_range
-lo_in_range_lem lo =
-    let h : without_g lo < 2 ^ 30 = omega arith in
-    let e : without_g lo % 2 ≡ 0 = omega arith in
-    rw (lt-ltb (without_g lo) (2 ^ 30) h, e)
+lo_in_range_lem lo = grind arith
 
 -- what a write stores is in range where its mask is legal, whatever else was moved
 pub stored_in_range : (moved : Slot) → legal_mask moved.mask ≡ true → slot_in_range (stored moved) ≡ true
@@ -97,18 +82,13 @@ both_true false b e = let z : ◌≡◌ {A = ℕ} 0 1 = cc in absurd (omega arit
 -- slots are in range together just where each is
 slots_each : (left i : ℕ) (tlb : List ℕ) → slots_in_range left i tlb ≡ true → (j : ℕ) → i ≤ j → j < i + left → slot_in_range (slot_at tlb j) ≡ true
 unfolding slots_in_range
-slots_each zero i tlb e j l h = let z : ⊥ = omega arith in absurd z
-slots_each (suc left) i tlb e j l h = go (slots_each left (i + 1) tlb (both_true (slot_in_range (slot_at tlb i)) (slots_in_range left (i + 1) tlb) e).1 j) (ℕ_discrete j i)
-  where
-    go : (i + 1 ≤ j → j < i + 1 + left → slot_in_range (slot_at tlb j) ≡ true) → Dec (j ≡ i) → slot_in_range (slot_at tlb j) ≡ true
-    go rest (yes d) = rw d (both_true (slot_in_range (slot_at tlb i)) (slots_in_range left (i + 1) tlb) e).0
-    go rest (no n) = rest (omega arith) (omega arith)
+slots_each zero i tlb e j l h = grind arith
+slots_each (suc left) i tlb e j l h = grind (arith, slots_each left (i + 1) tlb)
 
 each_slots : (left i : ℕ) (tlb : List ℕ) → ((j : ℕ) → i ≤ j → j < i + left → slot_in_range (slot_at tlb j) ≡ true) → slots_in_range left i tlb ≡ true
 unfolding slots_in_range
 each_slots zero i tlb all = refl
-each_slots (suc left) i tlb all =
-    rw (all i (omega arith) (omega arith), each_slots left (i + 1) tlb (λ j l h. all j (omega arith) (omega arith)))
+each_slots (suc left) i tlb all = grind (arith, each_slots left (i + 1) tlb)
 
 pub in_range_each : (tlb : List ℕ) → tlb_in_range tlb ≡ true → (j : ℕ) → j < 48 → slot_in_range (slot_at tlb j) ≡ true
 unfolding tlb_in_range

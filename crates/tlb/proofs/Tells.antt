@@ -1,6 +1,6 @@
 -- The search tells exactly which slots match: by induction over the slots looked at.
 use Prim.Native.Nat.{ℕ, zero, suc, ◌+◌, ◌<◌}
-use mathlib.Core.Path.{◌≡◌, refl, sym, subst}
+use mathlib.Core.Path.{◌≡◌, refl}
 use mathlib.Core.Bool.{Bool, true, false}
 use mathlib.Core.List.{List}
 use native.Mathlib.Nat.{add-zero}
@@ -55,17 +55,7 @@ module _ (tlb : List ℕ) (asid : ℕ) (v : VAddr) where
 
   pub only_one : (i : ℕ) → Only (matches_at tlb asid v) 48 i → lookup tlb asid v ≡ One i
   unfolding Tells
-  only_one i o = go (lookup tlb asid v) lookup_tells
-    where
-      go : (f : Found) → Tells (matches_at tlb asid v) 48 f → f ≡ One i
-      go Absent t = absurd (clash o.matches_it (t i o.below))
-      go (One k) t = let e : k ≡ i = o.alone k t.below t.matches_it in rw e
-      go Many t =
-          let l = t.apart in
-          let b = t.below in
-          let x : t.first ≡ i = o.alone t.first (omega arith) t.first_matches in
-          let y : t.second ≡ i = o.alone t.second b t.second_matches in
-          let z : ⊥ = omega arith in absurd z
+  only_one i o = grind (arith, lookup_tells, clash)
 
   -- Many just where two different ones match
   pub many_two : lookup tlb asid v ≡ Many → Two (matches_at tlb asid v) 48
@@ -74,17 +64,7 @@ module _ (tlb : List ℕ) (asid : ℕ) (v : VAddr) where
 
   pub two_many : Two (matches_at tlb asid v) 48 → lookup tlb asid v ≡ Many
   unfolding Tells
-  two_many o = go (lookup tlb asid v) lookup_tells
-    where
-      go : (f : Found) → Tells (matches_at tlb asid v) 48 f → f ≡ Many
-      go Absent t = absurd (clash o.second_matches (t o.second o.below))
-      go (One k) t =
-          let l = o.apart in
-          let b = o.below in
-          let x : o.first ≡ k = t.alone o.first (omega arith) o.first_matches in
-          let y : o.second ≡ k = t.alone o.second b o.second_matches in
-          let z : ⊥ = omega arith in absurd z
-      go Many t = refl
+  two_many o = grind (arith, lookup_tells, clash)
 
   -- Absent just where none matches
   pub absent_none : lookup tlb asid v ≡ Absent → (j : ℕ) → j < 48 → matches_at tlb asid v j ≡ false
@@ -93,9 +73,4 @@ module _ (tlb : List ℕ) (asid : ℕ) (v : VAddr) where
 
   pub none_absent : ((j : ℕ) → j < 48 → matches_at tlb asid v j ≡ false) → lookup tlb asid v ≡ Absent
   unfolding Tells
-  none_absent n = go (lookup tlb asid v) lookup_tells
-    where
-      go : (f : Found) → Tells (matches_at tlb asid v) 48 f → f ≡ Absent
-      go Absent t = refl
-      go (One k) t = absurd (clash t.matches_it (n k t.below))
-      go Many t = absurd (clash t.second_matches (n t.second t.below))
+  none_absent n = grind (arith, lookup_tells, clash)

@@ -14,22 +14,6 @@ use Rattle.elf.specs.Bytes.{byte}
 use Rattle.elf.specs.Header.{loads}
 use Rattle.elf.specs.Home.{home, within, covers}
 
--- past the end every byte is 0
-pub past_end : (file : List ℕ) (at : ℕ) → length file ≤ at → 0 ≡ byte file at
-unfolding byte
-past_end file at h = sym (get_or-eq_default file 0 h)
-
--- a number that is none of three
-pub last_of : (k a b c : ℕ) (t : Bool) → (k ≡ a → ⊥) → (k ≡ b → ⊥) → (k ≡ c → ⊥) → t ≡ either (eqb k a) (either (eqb k b) (either (eqb k c) t))
-last_of k a b c t p q r = simp (ne_eqb k a p, ne_eqb k b q, ne_eqb k c r)
-
--- a name has a byte or more, or it is empty
-pub some_leb : (n : ℕ) → (n ≡ 0 → ⊥) → leb 1 n ≡ true
-some_leb n h = le-leb 1 n (omega arith)
-
-pub empty_leb : (n : ℕ) → n ≡ 0 → leb 1 n ≡ false
-empty_leb n h = lt-leb 1 n (omega arith)
-
 -- two tests that both hold
 pub both_true : (a b : Bool) → both a b ≡ true → (a ≡ true) × (b ≡ true)
 both_true true b e = (refl, e)

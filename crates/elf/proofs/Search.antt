@@ -4,6 +4,8 @@ use mathlib.Core.Bool.{Bool, true, false}
 use mathlib.Core.Path.{◌≡◌, refl, sym, ap, ◌∙◌}
 use native.Mathlib.Decide.{ℕ_discrete}
 use native.Mathlib.Omega.{arith}
+use Rattle.std.specs.Prelude.{◌||◌}
+use Rattle.std.specs.List.{list_any, range_with_len}
 use Rattle.promise.specs.Pick.{either}
 use Rattle.elf.proofs.Laws.{never}
 
@@ -12,6 +14,10 @@ pub record Hit (t : ℕ → Bool) (i left : ℕ) : Type 0 where
   pub from : i ≤ place
   pub below : place < i + left
   pub hit : t place ≡ true
+
+or_either : (a b c : Bool) → b ≡ c → (a || b) ≡ either a c
+or_either true b c e = refl
+or_either false b c e = e
 
 module _ (t : ℕ → Bool) (f : ℕ → ℕ → Bool) (none : (i : ℕ) → f zero i ≡ false) (more : (left i : ℕ) → f (suc left) i ≡ either (t i) (f left (i + 1))) where
   pub hits : (left i : ℕ) → f left i ≡ true → Hit t i left
@@ -32,3 +38,8 @@ module _ (t : ℕ → Bool) (f : ℕ → ℕ → Bool) (none : (i : ℕ) → f z
       go rest true h d = absurd (never true refl (sym (more left i ∙ ap (λ (b : Bool). either b (f left (i + 1))) h) ∙ e))
       go rest false h (yes d) = rw d h
       go rest false h (no n) = rest (sym (more left i ∙ ap (λ (b : Bool). either b (f left (i + 1))) h) ∙ e) (omega arith) (omega arith)
+
+  -- it is the search that `any` makes of these numbers
+  pub any_is : (left i : ℕ) → list_any t (range_with_len i left) ≡ f left i
+  any_is zero i = sym (none i)
+  any_is (suc left) i = or_either (t i) _ _ (any_is left (i + 1)) ∙ sym (more left i)

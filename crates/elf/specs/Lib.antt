@@ -1,6 +1,5 @@
 -- The rulebook's ELF files: their numbers, headers, homes, faults and symbols.
 pub mod Bytes
-pub mod Small
 pub mod Header
 pub mod Home
 pub mod Pages

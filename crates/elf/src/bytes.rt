@@ -1,33 +1,29 @@
 // The numbers of a file, big-endian; past its end every byte is 0.
-ghost use Rattle.std.specs.Prelude.{◌<◌, ◌≤◌, ◌^◌, ◌≡◌};
+ghost use Rattle.std.specs.Prelude.{◌≤◌, ◌^◌, ◌≡◌};
 ghost use Rattle.elf.specs.Bytes as B;
 
 // The byte at an offset.
-pub(crate) fn byte(file: &[u8], at: usize) -> usize
-    ensures { (result ≡ B.byte file.now at) × (result < 256) }
+#[tactic(auto, unfolding(crate::specs::Bytes::byte))]
+pub(crate) fn byte(file: &[u8], at: usize) -> u8
+    ensures { result ≡ B.byte file.now at }
 {
-    if at < file.len() {
-        return file[at] as usize;
-    }
-    0
+    file.get(at).copied().unwrap_or(0)
 }
 
 // Two bytes.
-pub(crate) fn half(file: &[u8], at: usize) -> usize
+#[tactic(auto, unfolding(crate::specs::Bytes::half))]
+pub(crate) fn half(file: &[u8], at: usize) -> u16
     requires { at ≤ 2 ^ 40 }
-    ensures { (result ≡ B.half file.now at) × (result < 65536) }
+    ensures { result ≡ B.half file.now at }
 {
-    let a = byte(file, at);
-    let b = byte(file, at + 1);
-    a * 256 + b
+    u16::from(byte(file, at)) * 256 + u16::from(byte(file, at + 1))
 }
 
 // Four bytes.
-pub(crate) fn word(file: &[u8], at: usize) -> usize
+#[tactic(auto, unfolding(crate::specs::Bytes::word))]
+pub(crate) fn word(file: &[u8], at: usize) -> u32
     requires { at ≤ 2 ^ 39 }
-    ensures { (result ≡ B.word file.now at) × (result < 2 ^ 32) }
+    ensures { result ≡ B.word file.now at }
 {
-    let a = half(file, at);
-    let b = half(file, at + 2);
-    a * 65536 + b
+    u32::from(half(file, at)) * 65536 + u32::from(half(file, at + 2))
 }

@@ -1,11 +1,10 @@
 // Why a file is refused.
-ghost use Rattle.std.specs.Prelude.{◌<◌, ◌≤◌, ◌^◌, ◌≡◌};
+ghost use Rattle.std.specs.Prelude.{◌≡◌};
 ghost use Rattle.elf.specs.Faults as F;
 ghost use Rattle.elf.specs.Header as Headers;
-ghost use Rattle.elf.specs.Small.{Small};
 
 use crate::bytes::{byte, half, word};
-use crate::headers::{count, entry, header, loads, table};
+use crate::headers::{entry, header, loads, many, table};
 use crate::homes::{covers, home, outside};
 use crate::{Fault, Header, Space};
 
@@ -59,6 +58,7 @@ impl Fault {
 }
 
 // What is wrong with the header of a file.
+#[tactic(auto, unfolding(crate::specs::Faults::head_fault))]
 pub fn head_fault(file: &[u8]) -> Result<(), Fault>
     ensures { result ≡ F.head_fault file.now }
 {
@@ -70,36 +70,37 @@ pub fn head_fault(file: &[u8]) -> Result<(), Fault>
     }
     let class = byte(file, 4);
     if class != 1 {
-        return Err(Fault::Class(class));
+        return Err(Fault::Class(usize::from(class)));
     }
     let data = byte(file, 5);
     if data != 2 {
-        return Err(Fault::Order(data));
+        return Err(Fault::Order(usize::from(data)));
     }
     let machine = half(file, 18);
     if machine != 8 {
-        return Err(Fault::Machine(machine));
+        return Err(Fault::Machine(usize::from(machine)));
     }
     let kind = half(file, 16);
     if kind != 2 {
-        return Err(Fault::Unlinked(kind));
+        return Err(Fault::Unlinked(usize::from(kind)));
     }
     Ok(())
 }
 
 // What is wrong with its program headers as a table.
+#[tactic(auto, unfolding(crate::specs::Faults::table_fault))]
 fn table_fault(file: &[u8]) -> Result<(), Fault>
     ensures { result ≡ F.table_fault file.now }
 {
     let size = half(file, 42);
     if size != 32 {
-        return Err(Fault::HeaderSize(size));
+        return Err(Fault::HeaderSize(usize::from(size)));
     }
-    let many = count(file);
+    let many = usize::from(many(file));
     if 32 < many {
         return Err(Fault::TooMany(many));
     }
-    let at = table(file);
+    let at = table(file) as usize;
     if file.len() < at + 32 * many {
         return Err(Fault::NoTable(at));
     }
@@ -107,125 +108,95 @@ fn table_fault(file: &[u8]) -> Result<(), Fault>
 }
 
 // Whether n addresses from a on and m from b on share one.
-fn shares(a: usize, n: usize, b: usize, m: usize) -> bool
-    requires { (a < 2 ^ 32) × ((n < 2 ^ 32) × ((b < 2 ^ 32) × (m < 2 ^ 32))) }
+#[tactic(auto, unfolding(crate::specs::Faults::shares))]
+fn shares(a: u32, n: u32, b: u32, m: u32) -> bool
     ensures { result ≡ F.shares a n b m }
 {
-    if b + m <= a {
-        return false;
-    }
-    b < a + n
+    (a as usize) < b as usize + m as usize && (b as usize) < a as usize + n as usize
 }
 
 // Whether the homes of two headers share an address.
 fn overlap(space: Space, g: Header, h: Header) -> bool
-    requires { Small g × Small h }
     ensures { result ≡ F.overlap space g h }
 {
-    let vaddr = g.vaddr;
-    let n = g.memsz;
-    let other = h.vaddr;
-    let m = h.memsz;
-    let a = home(space, vaddr);
-    let b = home(space, other);
-    shares(a, n, b, m)
+    shares(home(space, g.vaddr), g.memsz, home(space, h.vaddr), h.memsz)
 }
 
 // Whether a header overlaps header i, and that is a segment.
-fn overlaps_at(space: Space, file: &[u8], h: Header, i: usize) -> bool
-    requires { (i ≤ 65536) × Small h }
+#[tactic(auto, unfolding(crate::specs::Faults::overlaps_at))]
+fn overlaps_at(space: Space, file: &[u8], h: Header, i: u16) -> bool
     ensures { result ≡ F.overlaps_at space file.now h i }
 {
     let g = header(file, i);
-    if !overlap(space, h, g) {
-        return false;
-    }
-    loads(file, g)
+    overlap(space, h, g) && loads(file, g)
 }
 
 // Whether a header overlaps a segment below header n.
-fn overlaps(space: Space, file: &[u8], h: Header, n: usize) -> bool
-    requires { (n ≤ 65536) × Small h }
+#[tactic(auto, unfolding(crate::specs::Faults::overlaps))]
+fn overlaps(space: Space, file: &[u8], h: Header, n: u16) -> bool
     ensures { result ≡ F.overlaps space file.now h n 0 }
 {
-    let mut left = n;
-    let mut i = 0;
-    while 0 < left {
-        if overlaps_at(space, file, h, i) {
-            return true;
-        }
-        i += 1;
-        left -= 1;
-    }
-    false
+    (0..n).any(|i| overlaps_at(space, file, h, i))
 }
 
-// What is wrong with a segment.
-fn segment_fault(space: Space, file: &[u8], h: Header, i: usize) -> Result<(), Fault>
-    requires { (i ≤ 65536) × Small h }
+// What is wrong with segment i.
+#[tactic(auto, unfolding(crate::specs::Faults::segment_fault))]
+fn segment_fault(space: Space, file: &[u8], h: Header, i: u16) -> Result<(), Fault>
     ensures { result ≡ F.segment_fault space file.now h i }
 {
-    let offset = h.offset;
-    let filesz = h.filesz;
-    let memsz = h.memsz;
-    if file.len() < offset + filesz {
-        return Err(Fault::NotStored(i));
+    let about = usize::from(i);
+    if file.len() < h.offset as usize + h.filesz as usize {
+        return Err(Fault::NotStored(about));
     }
-    if memsz < filesz {
-        return Err(Fault::MoreInFile(i));
+    if h.memsz < h.filesz {
+        return Err(Fault::MoreInFile(about));
     }
-    if 65536 < memsz {
-        return Err(Fault::TooLarge(i));
+    if 65536 < h.memsz {
+        return Err(Fault::TooLarge(about));
     }
     if outside(space, h) {
-        return Err(Fault::Leaves(i));
+        return Err(Fault::Leaves(about));
     }
     if overlaps(space, file, h, i) {
-        return Err(Fault::Shared(i));
+        return Err(Fault::Shared(about));
     }
     Ok(())
 }
 
 // What is wrong with header i.
-fn header_fault(space: Space, file: &[u8], i: usize) -> Result<(), Fault>
-    requires { i ≤ 65535 }
+#[tactic(auto, unfolding(crate::specs::Faults::header_fault))]
+fn header_fault(space: Space, file: &[u8], i: u16) -> Result<(), Fault>
     ensures { result ≡ F.header_fault space file.now i }
 {
     let h = header(file, i);
     if loads(file, h) {
-        return segment_fault(space, file, h, i);
+        segment_fault(space, file, h, i)
+    } else {
+        Ok(())
     }
-    Ok(())
 }
 
 // The first fault of the segments.
+#[tactic(auto, unfolding(crate::specs::Faults::segments_fault))]
 fn segments_fault(space: Space, file: &[u8]) -> Result<(), Fault>
     ensures { result ≡ F.segments_fault space file.now (Headers.count file.now) 0 }
 {
-    for i in 0..count(file) {
+    for i in 0..many(file) {
         header_fault(space, file, i)?;
     }
     Ok(())
 }
 
 // Whether there is a segment.
+#[tactic(auto, unfolding(crate::specs::Faults::any_segment))]
 fn any_segment(file: &[u8]) -> bool
     ensures { result ≡ F.any_segment file.now (Headers.count file.now) 0 }
 {
-    let mut left = count(file);
-    let mut i = 0;
-    while 0 < left {
-        let h = header(file, i);
-        if loads(file, h) {
-            return true;
-        }
-        i += 1;
-        left -= 1;
-    }
-    false
+    (0..many(file)).any(|i| loads(file, header(file, i)))
 }
 
 // What a file is refused for.
+#[tactic(auto, unfolding(crate::specs::Faults::file_fault))]
 pub fn file_fault(space: Space, file: &[u8]) -> Result<(), Fault>
     ensures { result ≡ F.file_fault space file.now }
 {
@@ -240,34 +211,24 @@ pub fn file_fault(space: Space, file: &[u8]) -> Result<(), Fault>
 }
 
 // Whether an address is in a segment.
+#[tactic(auto, unfolding(crate::specs::Faults::in_segment))]
 fn in_segment(file: &[u8], v: usize) -> bool
     ensures { result ≡ F.in_segment file.now v (Headers.count file.now) 0 }
 {
-    let mut left = count(file);
-    let mut i = 0;
-    while 0 < left {
-        let h = header(file, i);
-        if covers(Space::User, file, h, v) {
-            return true;
-        }
-        i += 1;
-        left -= 1;
-    }
-    false
+    (0..many(file)).any(|i| covers(Space::User, file, header(file, i), v))
 }
 
 // Whether the entry point is one.
+#[tactic(auto, unfolding(crate::specs::Faults::enters))]
 fn enters(file: &[u8]) -> bool
     ensures { result ≡ F.enters file.now }
 {
     let v = entry(file);
-    if v % 4 != 0 {
-        return false;
-    }
-    in_segment(file, v)
+    v % 4 == 0 && in_segment(file, v)
 }
 
 // What a program is refused for.
+#[tactic(auto, unfolding(crate::specs::Faults::program_fault))]
 pub fn program_fault(space: Space, file: &[u8]) -> Result<(), Fault>
     ensures { result ≡ F.program_fault space file.now }
 {

@@ -1,30 +1,29 @@
 // Where the segments of a file are at home, and what stands there.
-ghost use Rattle.std.specs.Prelude.{◌<◌, ◌≤◌, ◌^◌, ◌≡◌};
+ghost use Rattle.std.specs.Prelude.{◌≤◌, ◌≡◌};
 ghost use Rattle.elf.specs.Home as Homes;
-ghost use Rattle.elf.specs.Small.{Small};
 
 use crate::bytes::byte;
-use crate::headers::{count, header, loads};
+use crate::headers::{end, header, loads, many};
 use crate::{Header, Space};
 
 // The physical address of an unmapped one.
-fn physical(v: usize) -> usize
-    requires { v < 2 ^ 32 }
-    ensures { (result ≡ Homes.physical v) × (result < 2 ^ 32) }
+#[tactic(auto, unfolding(crate::specs::Home::physical))]
+fn physical(v: u32) -> u32
+    ensures { result ≡ Homes.physical v }
 {
     if 0xa0000000 <= v {
-        return v - 0xa0000000;
+        v - 0xa0000000
+    } else if 0x80000000 <= v {
+        v - 0x80000000
+    } else {
+        v
     }
-    if 0x80000000 <= v {
-        return v - 0x80000000;
-    }
-    v
 }
 
 // Where an address is at home.
-pub(crate) fn home(space: Space, v: usize) -> usize
-    requires { v < 2 ^ 32 }
-    ensures { (result ≡ Homes.home space v) × (result < 2 ^ 32) }
+#[tactic(auto, unfolding(crate::specs::Home::home))]
+pub(crate) fn home(space: Space, v: u32) -> u32
+    ensures { result ≡ Homes.home space v }
 {
     match space {
         Space::User => v,
@@ -32,99 +31,58 @@ pub(crate) fn home(space: Space, v: usize) -> usize
     }
 }
 
-// Whether a header leaves a User program's addresses.
-fn outside_user(vaddr: usize, memsz: usize) -> bool
-    requires { (vaddr < 2 ^ 32) × (memsz < 2 ^ 32) }
-    ensures { result ≡ Homes.outside_user vaddr memsz }
-{
-    0x7ffff000 < vaddr + memsz
-}
-
-// Whether a header leaves the unmapped addresses or the RAM.
-fn outside_kernel(vaddr: usize, memsz: usize) -> bool
-    requires { (vaddr < 2 ^ 32) × (memsz < 2 ^ 32) }
-    ensures { result ≡ Homes.outside_kernel vaddr memsz }
-{
-    if vaddr < 0x80000000 {
-        return true;
-    }
-    65536 < physical(vaddr) + memsz
-}
-
-// Whether a header is outside.
+// Whether a header leaves a User program's addresses; or of a kernel the unmapped ones, or the RAM.
+#[tactic(auto, unfolding(crate::specs::Home::outside, crate::specs::Home::outside_user, crate::specs::Home::outside_kernel))]
 pub(crate) fn outside(space: Space, h: Header) -> bool
-    requires { Small h }
     ensures { result ≡ Homes.outside space h }
 {
-    let vaddr = h.vaddr;
-    let memsz = h.memsz;
     match space {
-        Space::User => outside_user(vaddr, memsz),
-        Space::Kernel => outside_kernel(vaddr, memsz),
+        Space::User => 0x7ffff000 < end(h),
+        Space::Kernel => {
+            h.vaddr < 0x80000000 || 65536 < physical(h.vaddr) as usize + h.memsz as usize
+        }
     }
 }
 
 // Whether an address is one of n from b on.
-pub(crate) fn within(b: usize, n: usize, a: usize) -> bool
-    requires { (b < 2 ^ 32) × (n < 2 ^ 32) }
+#[tactic(auto, unfolding(crate::specs::Home::within))]
+fn within(b: u32, n: u32, a: usize) -> bool
     ensures { result ≡ Homes.within b n a }
 {
-    if a < b {
-        return false;
-    }
-    a < b + n
+    b as usize <= a && a < b as usize + n as usize
 }
 
 // Whether a header is a segment that covers an address.
+#[tactic(auto, unfolding(crate::specs::Home::covers))]
 pub(crate) fn covers(space: Space, file: &[u8], h: Header, a: usize) -> bool
-    requires { Small h }
     ensures { result ≡ Homes.covers space file.now h a }
 {
-    let vaddr = h.vaddr;
-    let memsz = h.memsz;
-    let b = home(space, vaddr);
-    if !within(b, memsz, a) {
-        return false;
-    }
-    loads(file, h)
+    within(home(space, h.vaddr), h.memsz, a) && loads(file, h)
 }
 
 // The byte of a segment at home at b.
+#[tactic(auto, unfolding(crate::specs::Home::byte_of))]
 fn byte_of(file: &[u8], h: Header, b: usize, a: usize) -> u8
-    requires { (b ≤ a) × Small h }
+    requires { b ≤ a }
     ensures { result ≡ Homes.byte_of file.now h b a }
 {
-    let offset = h.offset;
-    let filesz = h.filesz;
-    if a - b < filesz {
-        return byte(file, offset + (a - b)) as u8;
+    if a - b < h.filesz as usize {
+        byte(file, h.offset as usize + (a - b))
+    } else {
+        0
     }
-    0
-}
-
-// What a segment that covers an address has there.
-fn covered(space: Space, file: &[u8], h: Header, a: usize) -> u8
-    requires { (Homes.home space h.vaddr ≤ a) × Small h }
-    ensures { result ≡ Homes.byte_of file.now h (Homes.home space h.vaddr) a }
-{
-    let vaddr = h.vaddr;
-    let b = home(space, vaddr);
-    byte_of(file, h, b, a)
 }
 
 // What stands at an address of a file's home.
+#[tactic(auto, unfolding(crate::specs::Home::stands))]
 pub fn stands(space: Space, file: &[u8], a: usize) -> u8
     ensures { result ≡ Homes.stands space file.now a }
 {
-    let mut left = count(file);
-    let mut i = 0;
-    while 0 < left {
+    for i in 0..many(file) {
         let h = header(file, i);
         if covers(space, file, h, a) {
-            return covered(space, file, h, a);
+            return byte_of(file, h, home(space, h.vaddr) as usize, a);
         }
-        i += 1;
-        left -= 1;
     }
     0
 }

@@ -24,12 +24,12 @@ pub enum Space {
 // A program header.
 #[derive(Clone, Copy)]
 pub struct Header {
-    pub kind: usize,
-    pub offset: usize,
-    pub vaddr: usize,
-    pub filesz: usize,
-    pub memsz: usize,
-    pub flags: usize,
+    pub kind: u32,
+    pub offset: u32,
+    pub vaddr: u32,
+    pub filesz: u32,
+    pub memsz: u32,
+    pub flags: u32,
 }
 
 // The pages of a segment.
@@ -64,8 +64,8 @@ pub enum Fault {
 // A section header.
 #[derive(Clone, Copy)]
 pub struct Section {
-    pub kind: usize,
-    pub offset: usize,
-    pub size: usize,
-    pub link: usize,
+    pub kind: u32,
+    pub offset: u32,
+    pub size: u32,
+    pub link: u32,
 }

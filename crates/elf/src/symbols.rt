@@ -1,185 +1,143 @@
 // The value of a symbol, by its exact name.
-ghost use Rattle.std.specs.Prelude.{◌<◌, ◌≤◌, ◌^◌, ◌+◌, ◌≡◌, length};
+ghost use Rattle.std.specs.Prelude.{◌≤◌, ◌^◌, ◌+◌, ◌≡◌};
 ghost use Rattle.elf.specs.Bytes as B;
 ghost use Rattle.elf.specs.Symbol as S;
-ghost use Rattle.elf.specs.Small.{SmallSection};
 
 use crate::Section;
 use crate::bytes::{byte, half, word};
 
 // Whether the section headers are of 40 bytes and all in the file.
+#[tactic(auto, unfolding(crate::specs::Symbol::sectioned))]
 fn sectioned(file: &[u8]) -> bool
     ensures { result ≡ S.sectioned file.now }
 {
-    if half(file, 46) != 40 {
-        return false;
-    }
-    let at = word(file, 32);
-    let many = half(file, 48);
-    at + 40 * many <= file.len()
+    half(file, 46) == 40 && word(file, 32) as usize + 40 * usize::from(half(file, 48)) <= file.len()
 }
 
 // Section i.
-fn section(file: &[u8], i: usize) -> Section
-    requires { i < 2 ^ 32 }
-    ensures { (result ≡ S.section file.now i) × SmallSection result }
+#[tactic(auto, unfolding(crate::specs::Symbol::section))]
+fn section(file: &[u8], i: u32) -> Section
+    ensures { result ≡ S.section file.now i }
 {
-    let at = word(file, 32) + 40 * i;
-    let kind = word(file, at + 4);
-    let offset = word(file, at + 16);
-    let size = word(file, at + 20);
-    let link = word(file, at + 24);
+    let at = word(file, 32) as usize + 40 * i as usize;
     Section {
-        kind,
-        offset,
-        size,
-        link,
+        kind: word(file, at + 4),
+        offset: word(file, at + 16),
+        size: word(file, at + 20),
+        link: word(file, at + 24),
     }
 }
 
 // Whether a section is in the file.
 fn in_file(file: &[u8], s: Section) -> bool
-    requires { SmallSection s }
     ensures { result ≡ S.in_file file.now s }
 {
-    let offset = s.offset;
-    let size = s.size;
-    offset + size <= file.len()
+    s.offset as usize + s.size as usize <= file.len()
 }
 
 // Whether the bytes at an offset are these.
+#[tactic(auto, unfolding(crate::specs::Symbol::same_from))]
 fn same_from(file: &[u8], at: usize, name: &[u8]) -> bool
-    requires { (at ≤ 2 ^ 40) × (length name.now ≤ 2 ^ 40) }
+    requires { at ≤ 2 ^ 40 }
     ensures { result ≡ S.same_from file.now at name.now }
 {
-    let mut i = 0;
-    while i < name.len() {
-        if byte(file, at + i) != name[i] as usize {
+    for (i, x) in name.iter().enumerate() {
+        if byte(file, at + i) != *x {
             return false;
         }
-        i += 1;
     }
     true
 }
 
 // Whether the name that begins at a number is this one.
-fn named(file: &[u8], names: Section, begin: usize, name: &[u8]) -> bool
-    requires { (begin < 2 ^ 32) × ((length name.now ≤ 2 ^ 32) × SmallSection names) }
+#[tactic(auto, unfolding(crate::specs::Symbol::named))]
+fn named(file: &[u8], names: Section, begin: u32, name: &[u8]) -> bool
     ensures { result ≡ S.named file.now names begin name.now }
 {
-    let offset = names.offset;
-    let size = names.size;
-    if size <= begin + name.len() {
-        return false;
-    }
-    if byte(file, offset + begin + name.len()) != 0 {
-        return false;
-    }
-    same_from(file, offset + begin, name)
+    let at = names.offset as usize + begin as usize;
+    begin as usize + name.len() < names.size as usize
+        && byte(file, at + name.len()) == 0
+        && same_from(file, at, name)
 }
 
 // Whether the symbol at an offset is one of a section and of no source file.
+#[tactic(auto, unfolding(crate::specs::Symbol::defined))]
 fn defined(file: &[u8], at: usize) -> bool
     requires { at ≤ 2 ^ 39 }
     ensures { result ≡ S.defined file.now at }
 {
-    if half(file, at + 14) == 0 {
-        return false;
-    }
-    if byte(file, at + 12) % 16 == 4 {
-        return false;
-    }
-    true
+    half(file, at + 14) != 0 && byte(file, at + 12) % 16 != 4
 }
 
 // Whether the symbol at an offset is the one.
+#[tactic(auto, unfolding(crate::specs::Symbol::is_symbol))]
 fn is_symbol(file: &[u8], names: Section, name: &[u8], at: usize) -> bool
-    requires { (at ≤ 2 ^ 38) × ((length name.now ≤ 2 ^ 32) × SmallSection names) }
+    requires { at ≤ 2 ^ 38 }
     ensures { result ≡ S.is_symbol file.now names name.now at }
 {
-    if !defined(file, at) {
-        return false;
-    }
-    let begin = word(file, at);
-    named(file, names, begin, name)
+    defined(file, at) && named(file, names, word(file, at), name)
 }
 
 // The first such symbol of so many from an offset on.
-fn symbol_from(file: &[u8], names: Section, name: &[u8], many: usize, from: usize) -> Option<usize>
-    requires { (many < 2 ^ 32) × ((from < 2 ^ 32) × ((length name.now ≤ 2 ^ 32) × SmallSection names)) }
+#[tactic(auto, unfolding(crate::specs::Symbol::symbol_from))]
+fn symbol_from(file: &[u8], names: Section, name: &[u8], many: u32, from: u32) -> Option<usize>
     ensures { result ≡ S.symbol_from file.now names name.now many from }
 {
-    let mut left = many;
-    let mut at = from;
-    while 0 < left {
+    for j in 0..many {
+        let at = from as usize + 16 * j as usize;
         if is_symbol(file, names, name, at) {
-            return Some(word(file, at + 4));
+            return Some(word(file, at + 4) as usize);
         }
-        at += 16;
-        left -= 1;
     }
     None
 }
 
 // Of a section of symbols and its section of names.
+#[tactic(auto, unfolding(crate::specs::Symbol::symbol_in))]
 fn symbol_in(file: &[u8], symbols: Section, names: Section, name: &[u8]) -> Option<usize>
-    requires { (length name.now ≤ 2 ^ 32) × (SmallSection symbols × SmallSection names) }
     ensures { result ≡ S.symbol_in file.now symbols names name.now }
 {
-    if !in_file(file, symbols) {
-        return None;
+    if in_file(file, symbols) && in_file(file, names) {
+        symbol_from(file, names, name, symbols.size / 16, symbols.offset)
+    } else {
+        None
     }
-    if !in_file(file, names) {
-        return None;
-    }
-    let from = symbols.offset;
-    let size = symbols.size;
-    symbol_from(file, names, name, size / 16, from)
 }
 
 // Of a section of symbols.
+#[tactic(auto, unfolding(crate::specs::Symbol::symbol_by))]
 fn symbol_by(file: &[u8], symbols: Section, name: &[u8]) -> Option<usize>
-    requires { (length name.now ≤ 2 ^ 32) × SmallSection symbols }
     ensures { result ≡ S.symbol_by file.now symbols name.now }
 {
-    let link = symbols.link;
-    if half(file, 48) <= link {
-        return None;
+    if symbols.link < u32::from(half(file, 48)) {
+        symbol_in(file, symbols, section(file, symbols.link), name)
+    } else {
+        None
     }
-    let names = section(file, link);
-    symbol_in(file, symbols, names, name)
 }
 
 // Of the first section of symbols.
+#[tactic(auto, unfolding(crate::specs::Symbol::symbol_of))]
 fn symbol_of(file: &[u8], name: &[u8]) -> Option<usize>
-    requires { length name.now ≤ 2 ^ 32 }
     ensures { result ≡ S.symbol_of file.now name.now (B.half file.now 48) 0 }
 {
-    let mut left = half(file, 48);
-    let mut i = 0;
-    while 0 < left {
-        let s = section(file, i);
+    for i in 0..half(file, 48) {
+        let s = section(file, u32::from(i));
         if s.kind == 2 {
             return symbol_by(file, s, name);
         }
-        i += 1;
-        left -= 1;
     }
     None
 }
 
 // The value of a symbol; a name has 1 to 4,096 bytes.
+#[tactic(auto, unfolding(crate::specs::Symbol::symbol_named))]
 pub fn symbol_named(file: &[u8], name: &[u8]) -> Option<usize>
     ensures { result ≡ S.symbol_named file.now name.now }
 {
-    if name.len() == 0 {
-        return None;
+    if 1 <= name.len() && name.len() <= 4096 && sectioned(file) {
+        symbol_of(file, name)
+    } else {
+        None
     }
-    if 4096 < name.len() {
-        return None;
-    }
-    if sectioned(file) {
-        return symbol_of(file, name);
-    }
-    None
 }

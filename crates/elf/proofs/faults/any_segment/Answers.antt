@@ -1,16 +1,19 @@
-use mathlib.Core.Path.{sym, ◌∙◌}
+-- Number by number.
+use Prim.Native.Nat.{ℕ}
 use native.Mathlib.Omega.{arith}
-use Rattle.elf.proofs.Turns.{any_turn, any_done}
+use mathlib.Core.Path.{refl, ap, ◌∙◌}
+use Rattle.std.proofs.Common.{rules, tests}
+use Rattle.std.proofs.lemmas.Iterator.{YieldsList-from_range}
+use Rattle.std.proofs.lemmas.Iterator.Search.{any_from_yields_List}
+use Rattle.elf.specs.Header.{header, loads}
+use Rattle.elf.specs.Faults.{any_segment}
+use Rattle.elf.proofs.Search.{any_is}
 use Rattle.elf.proofs.faults.any_segment.Goals as goal
 
-pub loop-left-init : goal.loop-left-init
-loop-left-init c = (omega arith, (omega arith, simp c.count-left.ensures.0))
-
-pub returns-then-loads : goal.returns-then-loads
-returns-then-loads c = sym (c.loop-left.invariant.1.1 ∙ any_turn _ _ _ _ c.header-h.ensures.0 c.loop-left-test.true ∙ simp (sym c.loads.ensures ∙ c.if-loads.true))
-
-pub loop-left-preserved : goal.loop-left-preserved
-loop-left-preserved c = (omega arith, (omega arith, c.loop-left.invariant.1.1 ∙ any_turn _ _ _ _ c.header-h.ensures.0 c.loop-left-test.true ∙ simp (sym c.loads.ensures ∙ c.if-loads.false)))
-
 pub returns : goal.returns
-returns c = sym (c.loop-left.invariant.1.1 ∙ any_done _ _ _ c.loop-left-test.false)
+unfolding any_segment
+returns c =
+    any_from_yields_List (λ (i : ℕ). loads c.args.file.now (header c.args.file.now i)) _ _ _ c.any.ensures.ran
+    (YieldsList-from_range 0 _ _ refl (omega arith))
+    (λ x b q k. search (rules, tests))
+    ∙ any_is (λ (i : ℕ). loads c.args.file.now (header c.args.file.now i)) (any_segment c.args.file.now) (λ k. refl) (λ left k. refl) _ 0 ∙ ap (λ (n : ℕ). any_segment c.args.file.now n 0) c.many.ensures

@@ -1,16 +1,18 @@
-use mathlib.Core.Path.{refl, sym, ◌∙◌}
+-- Number by number.
+use Prim.Native.Nat.{ℕ}
 use native.Mathlib.Omega.{arith}
-use Rattle.elf.proofs.Turns.{overlaps_turn, overlaps_done}
+use mathlib.Core.Path.{refl, ◌∙◌}
+use Rattle.std.proofs.Common.{rules, tests}
+use Rattle.std.proofs.lemmas.Iterator.{YieldsList-from_range}
+use Rattle.std.proofs.lemmas.Iterator.Search.{any_from_yields_List}
+use Rattle.elf.specs.Faults.{overlaps_at, overlaps}
+use Rattle.elf.proofs.Search.{any_is}
 use Rattle.elf.proofs.faults.overlaps.Goals as goal
 
-pub loop-left-init : goal.loop-left-init
-loop-left-init c = (omega arith, (omega arith, refl))
-
-pub returns-then-overlaps_at : goal.returns-then-overlaps_at
-returns-then-overlaps_at c = sym (c.loop-left.invariant.1.1 ∙ overlaps_turn _ _ _ _ _ c.loop-left-test.true ∙ simp (sym c.overlaps_at.ensures ∙ c.if-overlaps_at.true))
-
-pub loop-left-preserved : goal.loop-left-preserved
-loop-left-preserved c = (omega arith, (omega arith, c.loop-left.invariant.1.1 ∙ overlaps_turn _ _ _ _ _ c.loop-left-test.true ∙ simp (sym c.overlaps_at.ensures ∙ c.if-overlaps_at.false)))
-
 pub returns : goal.returns
-returns c = sym (c.loop-left.invariant.1.1 ∙ overlaps_done _ _ _ _ _ c.loop-left-test.false)
+unfolding overlaps
+returns c =
+    any_from_yields_List (λ (i : ℕ). overlaps_at c.args.space c.args.file.now c.args.h i) _ _ _ c.any.ensures.ran
+    (YieldsList-from_range 0 _ _ refl (omega arith))
+    (λ x b q k. search (rules, tests))
+    ∙ any_is (λ (i : ℕ). overlaps_at c.args.space c.args.file.now c.args.h i) (overlaps c.args.space c.args.file.now c.args.h) (λ k. refl) (λ left k. refl) _ 0

@@ -1,12 +1,9 @@
--- The invariant: the headers that are left give what all headers give.
-use Prim.Native.Nat.{◌+◌, ◌<◌}
+-- The invariant: what stands by the headers left is what stands by all.
 use mathlib.Core.Path.{◌≡◌}
+use Prim.Native.Nat.{◌-◌}
 use Rattle.elf.specs.Header.{count}
 use Rattle.elf.specs.Home.{stands_from}
 use Rattle.elf.proofs.homes.stands.Given as goal
 
-abbrev pub invariant-loop-left : goal.invariant-loop-left
-invariant-loop-left l = (l.i + l.left ≡ count l.file) × ((count l.file < 65536) × (stands_from l.space l.file l.a (count l.file) 0 ≡ stands_from l.space l.file l.a l.left l.i))
-
-abbrev pub decreases-loop-left : goal.decreases-loop-left
-decreases-loop-left l = l.left
+abbrev pub invariant-loop-i : goal.invariant-loop-i
+invariant-loop-i l = stands_from l.space l.file l.a (count l.file) 0 ≡ stands_from l.space l.file l.a (l.i-end - l.i) l.i

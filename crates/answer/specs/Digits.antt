@@ -3,11 +3,11 @@ use Rattle.std.specs.Prelude.{ℕ, zero, suc, ◌+◌, ◌*◌, ◌/◌, ◌%◌
 use Rattle.promise.specs.Pick.{pick}
 
 -- the character of a digit: 0 to 9, then a to f (I1, I15)
-unfoldable pub character : ℕ → ℕ
+abbrev pub character : ℕ → ℕ
 character d = pick (ltb d 10) (48 + d) (87 + d)
 
 -- digit k of x, counted from 0 at the right (I15)
-unfoldable pub digit : ℕ → ℕ → ℕ
+abbrev pub digit : ℕ → ℕ → ℕ
 digit x k = x / 2 ^ (4 * k) % 16
 
 -- the low n digits of x, the top one first (I15)

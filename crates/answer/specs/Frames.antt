@@ -1,25 +1,30 @@
 -- Frames as they are printed: a tag, fields of digits, and LF.
-use Rattle.std.specs.Prelude.{ℕ, zero, suc, ◌+◌, ◌*◌, Bool, Option, Some, None, List, [], ◌∷◌, ◌++◌, eqb, ltb, get_or}
+use Rattle.std.specs.Prelude.{ℕ, zero, suc, ◌+◌, ◌*◌, ◌^◌, ◌<◌, ◌≡◌, Bool, Option, Some, None, option_map, List, [], ◌∷◌, ◌++◌, eqb, ltb, get_or}
 use Rattle.promise.specs.Pick.{pick}
 use Rattle.frame.specs.Line.{LF}
 use Rattle.frame.specs.Frame.{HI, LO}
+use Rattle.frame.specs.declared.Frame.{Frame}
+use Rattle.frame.specs.declared.Frame.TheVariants.{Register, Memory, Budget, Cp0, Slot}
 use Rattle.memory.specs.declared.Eight.{Eight}
 use Rattle.memory.specs.declared.Eight.TheVariants.{Ram, Rom}
 use Rattle.memory.specs.Memory.{read}
-use Rattle.tlb.specs.declared.Slot.{Slot}
-use Rattle.tlb.specs.Slot.{read_slot}
-use Rattle.cp0.specs.declared.Cp0.{Cp0}
+use Rattle.tlb.specs.declared.Slot as entry
+use Rattle.tlb.specs.Slot.{slot, read_slot}
+use Rattle.cp0.specs.declared.Cp0 as cp0
 use Rattle.cp0.specs.Registers.{kept?}
 use Rattle.cp0.specs.Moves.{move_out}
 use Rattle.effect.specs.declared.Cpu.{Cpu}
 use Rattle.card.specs.declared.Machine.{Machine}
-use Rattle.answer.specs.declared.Part.{Part}
-use Rattle.answer.specs.declared.Part.TheVariants.{NonZero, Registers, Kept, Slots, Memory}
 use Rattle.answer.specs.Digits.{hex_of}
 
+-- numbers, each of so many digits, one after the other, and LF (I1)
+abbrev pub fields_text : List (ℕ × ℕ) → List ℕ
+fields_text [] = LF ∷ []
+fields_text (f ∷ fs) = hex_of f.0 f.1 ++ fields_text fs
+
 -- a frame of two fields: its tag (2 digits), the fields, each of so many digits, and LF (I1)
-unfoldable pub frame : ℕ → ℕ → ℕ → ℕ → ℕ → List ℕ
-frame tag n x k y = hex_of 2 tag ++ hex_of n x ++ hex_of k y ++ LF ∷ []
+abbrev pub frame : ℕ → ℕ → ℕ → ℕ → ℕ → List ℕ
+frame tag n x k y = fields_text ((2, tag) ∷ (n, x) ∷ (k, y) ∷ [])
 
 -- `0f`: the stop's number, and the counted steps (I13)
 abbrev pub stop_frame : ℕ → ℕ → List ℕ
@@ -38,33 +43,48 @@ abbrev pub cp0_frame : ℕ → ℕ → List ℕ
 cp0_frame number value = frame 0x04 2 number 16 value
 
 -- a flag as a number
-unfoldable pub flag : Bool → ℕ
+abbrev pub flag : Bool → ℕ
 flag b = pick b 1 0
 
 -- `0a`: whether a slot is pending, its target, and the link bit (house)
-unfoldable pub pending_frame : Cpu → List ℕ
-pending_frame c = hex_of 2 0x0a ++ hex_of 2 (flag c.slot) ++ hex_of 16 c.target ++ hex_of 2 (flag c.link) ++ LF ∷ []
+abbrev pub pending_frame : Cpu → List ℕ
+pending_frame c = fields_text ((2, 0x0a) ∷ (2, flag c.slot) ∷ (16, c.target) ∷ (2, flag c.link) ∷ [])
 
 -- `05`: a slot's number, PageMask, EntryHi, EntryLo0 and EntryLo1 (I8)
-unfoldable pub slot_frame : ℕ → Slot → List ℕ
-slot_frame i s = hex_of 2 0x05 ++ hex_of 2 i ++ hex_of 8 s.mask ++ hex_of 8 s.hi ++ hex_of 8 s.lo0 ++ hex_of 8 s.lo1 ++ LF ∷ []
+abbrev pub slot_frame : ℕ → entry.Slot → List ℕ
+slot_frame i s = fields_text ((2, 0x05) ∷ (2, i) ∷ (8, s.mask) ∷ (8, s.hi) ∷ (8, s.lo0) ∷ (8, s.lo1) ∷ [])
 
 -- what frame `01` of this number holds (I4)
-unfoldable pub register : Cpu → List ℕ → ℕ → ℕ
+abbrev pub register : Cpu → List ℕ → ℕ → ℕ
 register c regs i = pick (ltb i HI) (get_or regs i 0) (pick (eqb i HI) c.hi (pick (eqb i LO) c.lo c.pc))
 
--- a frame with a value of 16 digits, only where the value is not zero (I13)
-unfoldable pub non_zero : ℕ → ℕ → ℕ → ℕ → List ℕ
-non_zero tag n x value = pick (eqb value 0) [] (frame tag n x 16 value)
+-- a frame as it is printed, where there is one (I1, I3, I5, I6, I8, I9)
+abbrev pub printed : Option Frame → List ℕ
+printed None = []
+printed (Some (Register number value)) = register_frame number value
+printed (Some (Memory address value)) = frame 0x02 8 address 16 value
+printed (Some (Budget n)) = fields_text ((2, 0x03) ∷ (8, n) ∷ [])
+printed (Some (Cp0 number value)) = cp0_frame number value
+printed (Some (Slot i mask hi lo0 lo1)) = slot_frame i (slot mask hi lo0 lo1)
+
+-- a frame only where its value is not zero (I13)
+abbrev pub non_zero : Frame → ℕ → Option Frame
+non_zero f value = pick (eqb value 0) None (Some f)
+
+-- frame `01` of this number, and the same only where the register is not zero (I13)
+abbrev pub register_line : Machine → ℕ → Option Frame
+register_line m i = Some (Register i (register m.cpu m.regs i))
+
+abbrev pub non_zero_line : Machine → ℕ → Option Frame
+non_zero_line m i = non_zero (Register i (register m.cpu m.regs i)) (register m.cpu m.regs i)
 
 -- a CP0 register's frame, where it is kept: the value as a doubleword move gives it, Cause without the lines (house; T11, T15)
-unfoldable pub kept_frame : Cp0 → ℕ → List ℕ
-kept_frame c i = pick (kept? i) (cp0_frame i (move_out c 0 i)) []
+abbrev pub kept_line : cp0.Cp0 → ℕ → Option Frame
+kept_line c i = pick (kept? i) (Some (Cp0 i (move_out c 0 i))) None
 
 -- a slot's frame, as TLBR gives it (house; T7)
-abbrev pub read_frame : ℕ → Option Slot → List ℕ
-read_frame i (Some s) = slot_frame i s
-read_frame i None = []
+abbrev pub slot_line : List ℕ → ℕ → Option Frame
+slot_line tlb i = option_map (λ (s : entry.Slot). Slot i s.mask s.hi s.lo0 s.lo1) (read_slot tlb i)
 
 -- the number that eight bytes of RAM are; 0 where RAM has none
 abbrev pub of_ram : Option Eight → ℕ
@@ -72,15 +92,16 @@ of_ram (Some (Ram x)) = x
 of_ram (Some (Rom x)) = 0
 of_ram None = 0
 
--- line i of each part of the state: the registers that are not zero (I13); all registers, CP0, the TLB, and the doublewords of RAM that are not zero (house)
-unfoldable pub line_of : Part → Machine → List ℕ → ℕ → List ℕ
-line_of NonZero m ram i = non_zero 0x01 2 i (register m.cpu m.regs i)
-line_of Registers m ram i = register_frame i (register m.cpu m.regs i)
-line_of Kept m ram i = kept_frame m.cp0 i
-line_of Slots m ram i = read_frame i (read_slot m.tlb i)
-line_of Memory m ram i = non_zero 0x02 8 (i * 8) (of_ram (read ram [] (record { 0 = i * 8 })))
+-- frame `02` of doubleword i of RAM, only where it is not zero (house)
+abbrev pub memory_line : List ℕ → ℕ → Option Frame
+memory_line ram i = let value : ℕ = of_ram (read ram [] (record { 0 = i * 8 })) in non_zero (Memory (i * 8) value) value
 
 -- n lines one after the other, from line i on
-unfoldable pub each : (ℕ → List ℕ) → ℕ → ℕ → List ℕ
+unfoldable pub each : (ℕ → Option Frame) → ℕ → ℕ → List ℕ
 each f zero i = []
-each f (suc n) i = f i ++ each f n (i + 1)
+each f (suc n) i = printed (f i) ++ each f n (i + 1)
+
+-- the same of lines that are told of one by one
+unfoldable pub IsEach : (ℕ → Option Frame → Type 0) → ℕ → ℕ → List ℕ → Type 0
+IsEach L zero i text = text ≡ []
+IsEach L (suc n) i text = (f : Option Frame) × (rest : List ℕ) × (i < 2 ^ 16) × L i f × (text ≡ printed f ++ rest) × IsEach L n (i + 1) rest

@@ -3,37 +3,23 @@
 
 mod texts;
 
-ghost use Rattle.std.specs.Prelude.{◌≡◌, ℕ, ◌+◌, ◌*◌, ◌≤◌, ◌<◌, ◌^◌, set};
-ghost use Rattle.card.specs.Machine.{machine};
+ghost use Rattle.std.specs.Prelude.{◌≡◌, ℕ, List, ◌+◌, ◌*◌, ◌≤◌, ◌<◌, ◌^◌, [], ◌∷◌, length, IsTrue, nat_le};
+ghost use Rattle.std.specs.List.{list_all};
 ghost use Rattle.answer.specs.Digits as D;
 ghost use Rattle.answer.specs.Frames as F;
-ghost use Rattle.answer.specs.Wrote.{Wrote};
+ghost use Rattle.answer.specs.Put.{Put};
 
+use card::Machine;
 use cp0::Cp0;
-use effect::Cpu;
-use frame::{HI, LF, LO};
+use frame::{Frame, HI, LF, LO};
 use memory::{Eight, PAddr};
 pub use texts::{cardrun_text, cardstate_text, placed_text, reason_text, refusal_text, word_text};
-use tlb::Slot;
 
-// The parts of the state, in lines.
-#[derive(Clone, Copy)]
-pub enum Part {
-    NonZero,
-    Registers,
-    Kept,
-    Slots,
-    Memory,
-}
-
-// A byte of the text; past the buffer's end there is nowhere to write it.
-fn put(out: &mut [u8], at: usize, b: u8)
-    ensures { out.new ≡ set out.old at b }
-{
-    if out.len() <= at {
-        return;
-    }
-    out[at] = b;
+// A text in a lent buffer, and where it goes on; past the buffer's end there is nowhere to write it.
+#[derive(Drop)]
+struct Text<'a> {
+    out: &'a mut [u8],
+    at: usize,
 }
 
 // Digit k of a number, from the right.
@@ -49,200 +35,170 @@ fn character(d: u8) -> u8
     requires { d < 16 }
     ensures { result ≡ D.character d }
 {
-    if d < 10 {
-        return 48 + d;
-    }
-    87 + d
-}
-
-// The low `many` digits of a number, the top one first; where they end.
-fn put_hex(out: &mut [u8], at: usize, many: u64, x: u64) -> usize
-    requires { (at ≤ 2 ^ 40) × (many ≤ 16) }
-    ensures { (Wrote out.old at (D.hex_of many x) result out.new) × (result ≡ at + many) }
-{
-    let mut to = at;
-    let mut n = many;
-    while 0 < n {
-        n -= 1;
-        let c = character(digit(x, n));
-        put(&mut *out, to, c);
-        to += 1;
-    }
-    to
-}
-
-// A frame of a tag and two fields, each with its number of digits.
-fn put_frame(out: &mut [u8], at: usize, tag: u64, n: u64, x: u64, k: u64, y: u64) -> usize
-    requires { (at ≤ 2 ^ 39) × (n ≤ 16) × (k ≤ 16) }
-    ensures { (Wrote out.old at (F.frame tag n x k y) result out.new) × (result ≤ at + 40) }
-{
-    let a = put_hex(&mut *out, at, 2, tag);
-    let b = put_hex(&mut *out, a, n, x);
-    let c = put_hex(&mut *out, b, k, y);
-    put(&mut *out, c, LF);
-    c + 1
-}
-
-// A flag as a number.
-fn flag(b: bool) -> u64
-    ensures { result ≡ F.flag b }
-{
-    if b {
-        return 1;
-    }
-    0
-}
-
-// The frame of the pending slot and the link bit.
-fn put_pending(out: &mut [u8], at: usize, cpu: Cpu) -> usize
-    requires { at ≤ 2 ^ 39 }
-    ensures { (Wrote out.old at (F.pending_frame cpu) result out.new) × (result ≤ at + 40) }
-{
-    let a = put_hex(&mut *out, at, 2, 0x0a);
-    let b = put_hex(&mut *out, a, 2, flag(cpu.slot));
-    let c = put_hex(&mut *out, b, 16, cpu.target);
-    let d = put_hex(&mut *out, c, 2, flag(cpu.link));
-    put(&mut *out, d, LF);
-    d + 1
-}
-
-// The frame of a slot of the TLB.
-fn put_slot(out: &mut [u8], at: usize, i: u64, s: Slot) -> usize
-    requires { at ≤ 2 ^ 39 }
-    ensures { (Wrote out.old at (F.slot_frame i s) result out.new) × (result ≤ at + 40) }
-{
-    let a = put_hex(&mut *out, at, 2, 0x05);
-    let b = put_hex(&mut *out, a, 2, i);
-    let c = put_hex(&mut *out, b, 8, s.mask);
-    let d = put_hex(&mut *out, c, 8, s.hi);
-    let e = put_hex(&mut *out, d, 8, s.lo0);
-    let f = put_hex(&mut *out, e, 8, s.lo1);
-    put(&mut *out, f, LF);
-    f + 1
+    if d < 10 { b'0' + d } else { b'a' + d - 10 }
 }
 
 // What frame `01` of this number holds.
-fn register(cpu: Cpu, regs: &[u64; 32], i: usize) -> u64
-    ensures { result ≡ F.register cpu regs.now i }
+fn register(m: &Machine, i: usize) -> u64
+    ensures { result ≡ F.register m.now.cpu m.now.regs i }
 {
-    if i < HI {
-        return regs[i];
+    match i {
+        HI => m.cpu.hi,
+        LO => m.cpu.lo,
+        _ if i < HI => m.regs[i],
+        _ => m.cpu.pc,
     }
-    if i == HI {
-        return cpu.hi;
-    }
-    if i == LO {
-        return cpu.lo;
-    }
-    cpu.pc
 }
 
-// A frame with a value of 16 digits, only where the value is not zero.
-fn put_non_zero(out: &mut [u8], at: usize, tag: u64, n: u64, x: u64, value: u64) -> usize
-    requires { (at ≤ 2 ^ 39) × (n ≤ 16) }
-    ensures { (Wrote out.old at (F.non_zero tag n x value) result out.new) × (result ≤ at + 40) }
+// A frame only where its value is not zero.
+fn non_zero(f: Frame, value: u64) -> Option<Frame>
+    ensures { result ≡ F.non_zero f value }
 {
-    if value == 0 {
-        return at;
-    }
-    put_frame(&mut *out, at, tag, n, x, 16, value)
+    if value == 0 { None } else { Some(f) }
+}
+
+// Frame `01` of this number.
+fn register_line(m: &Machine, i: usize) -> Option<Frame>
+    ensures { result ≡ F.register_line m.now i }
+{
+    Some(Frame::Register {
+        number: i,
+        value: register(m, i),
+    })
+}
+
+// Frame `01` of this number, only where the register is not zero.
+fn non_zero_line(m: &Machine, i: usize) -> Option<Frame>
+    ensures { result ≡ F.non_zero_line m.now i }
+{
+    let value = register(m, i);
+    non_zero(Frame::Register { number: i, value }, value)
 }
 
 // A CP0 register's frame, where it is kept.
-fn put_kept(out: &mut [u8], at: usize, cp0: Cp0, i: usize) -> usize
-    requires { at ≤ 2 ^ 39 }
-    ensures { (Wrote out.old at (F.kept_frame cp0 i) result out.new) × (result ≤ at + 40) }
+fn kept_line(cp0: Cp0, i: usize) -> Option<Frame>
+    ensures { result ≡ F.kept_line cp0 i }
 {
-    if cp0::kept(i) {
-        return put_frame(
-            &mut *out,
-            at,
-            0x04,
-            2,
-            i as u64,
-            16,
-            cp0::move_out(cp0, 0, i),
-        );
+    if !cp0::kept(i) {
+        return None;
     }
-    at
+    let value = cp0::move_out(cp0, 0, i);
+    Some(Frame::Cp0 { number: i, value })
 }
 
 // The frame of a slot that TLBR gives.
-fn put_read(out: &mut [u8], at: usize, i: u64, x: Option<Slot>) -> usize
-    requires { at ≤ 2 ^ 39 }
-    ensures { (Wrote out.old at (F.read_frame i x) result out.new) × (result ≤ at + 40) }
+fn slot_line(tlb: &[u64; 192], i: usize) -> Option<Frame>
+    ensures { result ≡ F.slot_line tlb.now i }
 {
-    match x {
-        Some(s) => put_slot(&mut *out, at, i, s),
-        None => at,
-    }
+    let s = tlb::read_slot(tlb, i)?;
+    Some(Frame::Slot {
+        index: i,
+        mask: s.mask,
+        hi: s.hi,
+        lo0: s.lo0,
+        lo1: s.lo1,
+    })
 }
 
-// The number that eight bytes of RAM are; 0 where RAM has none.
-fn of_ram(x: Option<Eight>) -> u64
-    ensures { result ≡ F.of_ram x }
+// Frame `02` of a doubleword of RAM, only where it is not zero.
+fn memory_line(ram: &[u8], i: usize) -> Option<Frame>
+    requires { i < 2 ^ 16 }
+    ensures { result ≡ F.memory_line ram.now i }
 {
-    match x {
+    let address = i as u64 * 8;
+    let value = match memory::read(ram, &[], PAddr(address)) {
         Some(Eight::Ram(n)) => n,
         _ => 0,
-    }
+    };
+    non_zero(Frame::Memory { address, value }, value)
 }
 
-// Line i of a part of the state.
-fn put_line(
-    out: &mut [u8],
-    at: usize,
-    part: Part,
-    i: usize,
-    cpu: Cpu,
-    cp0: Cp0,
-    regs: &[u64; 32],
-    tlb: &[u64; 192],
-    ram: &[u8],
-) -> usize
-    requires { (at ≤ 2 ^ 39) × (i ≤ 2 ^ 16) }
-    ensures { (Wrote out.old at (F.line_of part (machine cpu cp0 regs.now tlb.now) ram.now i) result out.new) × (result ≤ at + 40) }
-{
-    let n = i as u64;
-    match part {
-        Part::NonZero => put_non_zero(&mut *out, at, 0x01, 2, n, register(cpu, regs, i)),
-        Part::Registers => put_frame(&mut *out, at, 0x01, 2, n, 16, register(cpu, regs, i)),
-        Part::Kept => put_kept(&mut *out, at, cp0, i),
-        Part::Slots => put_read(&mut *out, at, n, tlb::read_slot(tlb, i)),
-        Part::Memory => put_non_zero(
-            &mut *out,
-            at,
-            0x02,
-            8,
-            n * 8,
-            of_ram(memory::read(ram, &ram[0..0], PAddr(n * 8))),
-        ),
+impl<'a> Text<'a> {
+    // One byte.
+    fn byte(&mut self, b: u8)
+        requires { self.old.at + 1 < 2 ^ 64 }
+        ensures { Put self.old self.new (b ∷ []) }
+    {
+        if self.at < self.out.len() {
+            self.out[self.at] = b;
+        }
+        self.at += 1;
     }
-}
 
-// So many lines of a part of the state, from line `from` on.
-fn put_each(
-    out: &mut [u8],
-    at: usize,
-    part: Part,
-    from: usize,
-    count: usize,
-    cpu: Cpu,
-    cp0: Cp0,
-    regs: &[u64; 32],
-    tlb: &[u64; 192],
-    ram: &[u8],
-) -> usize
-    requires { (at ≤ 2 ^ 38) × (from + count ≤ 2 ^ 16) }
-    ensures { (Wrote out.old at (F.each (F.line_of part (machine cpu cp0 regs.now tlb.now) ram.now) count from) result out.new) × (result ≤ at + 40 * count) }
-{
-    let mut to = at;
-    let mut i = from;
-    let mut left = count;
-    while 0 < left {
-        to = put_line(&mut *out, to, part, i, cpu, cp0, regs, tlb, ram);
-        i += 1;
-        left -= 1;
+    // Bytes as they are.
+    fn bytes(&mut self, text: &[u8])
+        requires { self.old.at ≤ 2 ^ 39 }
+        ensures { Put self.old self.new text.now }
+    {
+        for b in text {
+            self.byte(*b);
+        }
     }
-    to
+
+    // The low `many` digits of a number, the top one first.
+    fn hex(&mut self, many: u64, x: u64)
+        requires { (self.old.at ≤ 2 ^ 39) × (many ≤ 16) }
+        ensures { Put self.old self.new (D.hex_of many x) }
+    {
+        for k in (0..many).rev() {
+            self.byte(character(digit(x, k)));
+        }
+    }
+
+    // Numbers, each of so many digits, and LF.
+    fn line(&mut self, fields: &[(u64, u64)])
+        requires { (self.old.at ≤ 2 ^ 38) × (length fields.now ≤ 6) × IsTrue (list_all (λ (f : ℕ × ℕ). nat_le f.0 16) fields.now) }
+        ensures { Put self.old self.new (F.fields_text fields.now) × (self.new.at ≤ self.old.at + 97) }
+    {
+        for &(many, x) in fields {
+            self.hex(many, x);
+        }
+        self.byte(LF);
+    }
+    // A frame, where there is one.
+    fn frame(&mut self, f: Option<Frame>)
+        requires { self.old.at ≤ 2 ^ 38 }
+        ensures { Put self.old self.new (F.printed f) × (self.new.at ≤ self.old.at + 97) }
+    {
+        match f {
+            None => {}
+            Some(Frame::Register { number, value }) => {
+                self.line(&[(2, 0x01), (2, number as u64), (16, value)]);
+            }
+            Some(Frame::Memory { address, value }) => {
+                self.line(&[(2, 0x02), (8, address), (16, value)]);
+            }
+            Some(Frame::Budget(n)) => self.line(&[(2, 0x03), (8, n)]),
+            Some(Frame::Cp0 { number, value }) => {
+                self.line(&[(2, 0x04), (2, number as u64), (16, value)]);
+            }
+            Some(
+                Frame::Slot {
+                    index,
+                    mask,
+                    hi,
+                    lo0,
+                    lo1,
+                },
+            ) => self.line(&[
+                (2, 0x05),
+                (2, index as u64),
+                (8, mask),
+                (8, hi),
+                (8, lo0),
+                (8, lo1),
+            ]),
+        }
+    }
+
+    // So many lines, from line `from` on.
+    fn each<L: Fn(usize) -> Option<Frame>>(&mut self, from: usize, count: usize, line: L)
+        requires room { (self.old.at ≤ 2 ^ 37) × (from + count ≤ 2 ^ 16) }
+        requires callable { (i : ℕ) → i < 2 ^ 16 → L.pre line i }
+        ensures { (text : List ℕ) × F.IsEach (L.post line) count from text × Put self.old self.new text × (self.new.at ≤ self.old.at + 97 * count) }
+    {
+        for i in from..from + count {
+            self.frame(line(i));
+        }
+    }
 }

@@ -1,151 +1,108 @@
 // The texts that the programs print, whole.
 ghost use Rattle.std.specs.Prelude.{◌+◌, ◌≤◌, ◌^◌, ◌≡◌};
-ghost use Rattle.card.specs.Machine.{machine};
-ghost use Rattle.answer.specs.Frames.{refusal_frame};
+ghost use Rattle.answer.specs.Frames.{refusal_frame, register_frame, cp0_frame};
 ghost use Rattle.answer.specs.Placed.{preset_text, placed_text, reason_text, word_text};
+ghost use Rattle.answer.specs.Put.{Put};
 ghost use Rattle.answer.specs.Texts as T;
 ghost use Rattle.answer.specs.Wrote.{Wrote};
 
-use crate::{Part, put, put_each, put_frame, put_hex, put_pending};
-use card::Ran;
-use cp0::Cp0;
-use effect::Cpu;
-use frame::{LF, PC};
+use crate::{Text, kept_line, memory_line, non_zero_line, register_line, slot_line};
+use card::{Machine, Ran};
+use frame::{Frame, PC};
 
 // A refusal: only `0e`.
 pub fn refusal_text(out: &mut [u8], number: u8, line: u64) -> usize
     ensures { Wrote out.old 0 (refusal_frame number line) result out.new }
 {
-    let end = put_frame(&mut *out, 0, 0x0e, 2, number as u64, 8, line);
-    end
+    let mut text = Text { out, at: 0 };
+    text.line(&[(2, 0x0e), (2, u64::from(number)), (8, line)]);
+    text.at
 }
 
 // Whether the run was refused.
 fn refused(stop: u8) -> bool
     ensures { result ≡ T.refused stop }
 {
-    if 1 <= stop {
-        return stop <= 4;
-    }
-    false
+    matches!(stop, 1..=4)
 }
 
 // What `cardrun` prints of a run.
 pub fn cardrun_text(out: &mut [u8], ran: Ran) -> usize
     ensures { Wrote out.old 0 (T.cardrun_text ran) result out.new }
 {
-    let m = ran.machine;
-    let cpu = m.cpu;
-    let cp0 = m.cp0;
-    let regs = m.regs;
-    let tlb = m.tlb;
-    let none = [0u8; 8];
     if refused(ran.stop) {
-        return refusal_text(&mut *out, ran.stop, 0);
+        return refusal_text(out, ran.stop, 0);
     }
-    let a = put_frame(&mut *out, 0, 0x0f, 2, ran.stop as u64, 8, ran.steps);
-    let b = put_each(
-        &mut *out,
-        a,
-        Part::NonZero,
-        1,
-        33,
-        cpu,
-        cp0,
-        &regs,
-        &tlb,
-        &none,
-    );
-    let end = put_frame(&mut *out, b, 0x01, 2, PC as u64, 16, cpu.pc);
-    end
+    let m = &ran.machine;
+    let mut text = Text { out, at: 0 };
+    text.line(&[(2, 0x0f), (2, u64::from(ran.stop)), (8, ran.steps)]);
+    text.each(1, 33, |i| non_zero_line(m, i));
+    text.register(PC, m.cpu.pc);
+    text.at
 }
 
-// The whole state.
-fn put_state(
-    out: &mut [u8],
-    at: usize,
-    cpu: Cpu,
-    cp0: Cp0,
-    regs: &[u64; 32],
-    tlb: &[u64; 192],
-    ram: &[u8],
-) -> usize
-    requires { at ≤ 2 ^ 30 }
-    ensures { Wrote out.old at (T.state_text (machine cpu cp0 regs.now tlb.now) ram.now) result out.new }
-{
-    let a = put_each(
-        &mut *out,
-        at,
-        Part::Registers,
-        0,
-        35,
-        cpu,
-        cp0,
-        regs,
-        tlb,
-        ram,
-    );
-    let b = put_pending(&mut *out, a, cpu);
-    let c = put_each(&mut *out, b, Part::Kept, 0, 32, cpu, cp0, regs, tlb, ram);
-    let d = put_each(&mut *out, c, Part::Slots, 0, 48, cpu, cp0, regs, tlb, ram);
-    let end = put_each(
-        &mut *out,
-        d,
-        Part::Memory,
-        0,
-        8192,
-        cpu,
-        cp0,
-        regs,
-        tlb,
-        ram,
-    );
-    end
+impl<'a> Text<'a> {
+    // Frame `01`.
+    fn register(&mut self, number: usize, value: u64)
+        requires { self.old.at ≤ 2 ^ 38 }
+        ensures { Put self.old self.new (register_frame number value) × (self.new.at ≤ self.old.at + 97) }
+    {
+        self.frame(Some(Frame::Register { number, value }));
+    }
+
+    // Frame `04`.
+    fn cp0(&mut self, number: usize, value: u64)
+        requires { self.old.at ≤ 2 ^ 38 }
+        ensures { Put self.old self.new (cp0_frame number value) × (self.new.at ≤ self.old.at + 97) }
+    {
+        self.frame(Some(Frame::Cp0 { number, value }));
+    }
+
+    // The whole state.
+    fn state(&mut self, m: &Machine, ram: &[u8])
+        requires { self.old.at ≤ 2 ^ 30 }
+        ensures { Put self.old self.new (T.state_text m.now ram.now) }
+    {
+        self.each(0, 35, |i| register_line(m, i));
+        self.line(&[
+            (2, 0x0a),
+            (2, u64::from(m.cpu.slot)),
+            (16, m.cpu.target),
+            (2, u64::from(m.cpu.link)),
+        ]);
+        self.each(0, 32, |i| kept_line(m.cp0, i));
+        self.each(0, 48, |i| slot_line(&m.tlb, i));
+        self.each(0, 8192, |i| memory_line(ram, i));
+    }
+
+    // Status, and PC; for a User program User mode, ASID 1 and the stack pointer as well.
+    fn preset(&mut self, user: bool, pc: u64)
+        requires { self.old.at ≤ 2 ^ 37 }
+        ensures { Put self.old self.new (preset_text user pc) × (self.new.at ≤ self.old.at + 388) }
+    {
+        if user {
+            self.cp0(12, 0x10);
+            self.cp0(10, 1);
+            self.register(29, 0x7ffffff0);
+            self.register(PC, pc);
+        } else {
+            self.cp0(12, 0);
+            self.register(PC, pc);
+        }
+    }
 }
 
 // What `cardstate` prints of a run and the RAM that it left.
 pub fn cardstate_text(out: &mut [u8], ran: Ran, ram: &[u8]) -> usize
     ensures { Wrote out.old 0 (T.cardstate_text ran ram.now) result out.new }
 {
-    let m = ran.machine;
-    let cpu = m.cpu;
-    let cp0 = m.cp0;
-    let regs = m.regs;
-    let tlb = m.tlb;
     if refused(ran.stop) {
-        return refusal_text(&mut *out, ran.stop, 0);
+        return refusal_text(out, ran.stop, 0);
     }
-    let a = put_frame(&mut *out, 0, 0x0f, 2, ran.stop as u64, 8, ran.steps);
-    let end = put_state(&mut *out, a, cpu, cp0, &regs, &tlb, ram);
-    end
-}
-
-// A text as it is.
-fn put_text(out: &mut [u8], at: usize, text: &[u8]) -> usize
-    requires { at ≤ 2 ^ 39 }
-    ensures { Wrote out.old at text.now result out.new }
-{
-    let mut i = 0;
-    while i < text.len() {
-        put(&mut *out, at + i, text[i]);
-        i += 1;
-    }
-    at + i
-}
-
-// Status, and PC; for a User program User mode, ASID 1 and the stack pointer as well.
-fn put_preset(out: &mut [u8], at: usize, user: bool, pc: u64) -> usize
-    requires { at ≤ 2 ^ 38 }
-    ensures { (Wrote out.old at (preset_text user pc) result out.new) × (result ≤ at + 160) }
-{
-    if user {
-        let a = put_frame(&mut *out, at, 0x04, 2, 12, 16, 0x10);
-        let b = put_frame(&mut *out, a, 0x04, 2, 10, 16, 1);
-        let c = put_frame(&mut *out, b, 0x01, 2, 29, 16, 0x7ffffff0);
-        return put_frame(&mut *out, c, 0x01, 2, PC as u64, 16, pc);
-    }
-    let d = put_frame(&mut *out, at, 0x04, 2, 12, 16, 0);
-    put_frame(&mut *out, d, 0x01, 2, PC as u64, 16, pc)
+    let mut text = Text { out, at: 0 };
+    text.line(&[(2, 0x0f), (2, u64::from(ran.stop)), (8, ran.steps)]);
+    text.state(&ran.machine, ram);
+    text.at
 }
 
 // The text of an image that places a RAM and a TLB, and then has settings of its own.
@@ -160,55 +117,28 @@ pub fn placed_text(
 ) -> usize
     ensures { Wrote out.old 0 (placed_text tlb.now ram.now used user pc settings.now) result out.new }
 {
-    let m = card::fresh();
-    let cpu = m.cpu;
-    let cp0 = m.cp0;
-    let regs = m.regs;
-    let a = put_each(
-        &mut *out,
-        0,
-        Part::Memory,
-        0,
-        8192,
-        cpu,
-        cp0,
-        &regs,
-        tlb,
-        ram,
-    );
-    let b = put_each(
-        &mut *out,
-        a,
-        Part::Slots,
-        0,
-        used as usize,
-        cpu,
-        cp0,
-        &regs,
-        tlb,
-        ram,
-    );
-    let c = put_preset(&mut *out, b, user, pc);
-    put_text(&mut *out, c, settings)
+    let mut text = Text { out, at: 0 };
+    text.each(0, 8192, |i| memory_line(ram, i));
+    text.each(0, usize::from(used), |i| slot_line(tlb, i));
+    text.preset(user, pc);
+    text.bytes(settings);
+    text.at
 }
 
 // Why there is no image: a refusal's number, a file's number, and what it is about.
 pub fn reason_text(out: &mut [u8], number: u8, file: u64, about: u64) -> usize
     ensures { (Wrote out.old 0 (reason_text number file about) result out.new) × (result ≡ 15) }
 {
-    let a = put_hex(&mut *out, 0, 2, 0x0d);
-    let b = put_hex(&mut *out, a, 2, number as u64);
-    let c = put_hex(&mut *out, b, 2, file);
-    let d = put_hex(&mut *out, c, 8, about);
-    put(&mut *out, d, LF);
-    d + 1
+    let mut text = Text { out, at: 0 };
+    text.line(&[(2, 0x0d), (2, u64::from(number)), (2, file), (8, about)]);
+    text.at
 }
 
 // A word as eight digits.
 pub fn word_text(out: &mut [u8], value: u64) -> usize
     ensures { (Wrote out.old 0 (word_text value) result out.new) × (result ≡ 9) }
 {
-    let a = put_hex(&mut *out, 0, 8, value);
-    put(&mut *out, a, LF);
-    a + 1
+    let mut text = Text { out, at: 0 };
+    text.line(&[(8, value)]);
+    text.at
 }

@@ -1,8 +1,8 @@
--- The pieces are written one after the other; the registers' lines do not depend on RAM.
-use mathlib.Core.Path.{sym, ◌∙◌}
+-- The pieces are written one after the other.
+use Rattle.std.proofs.Common.{rules, sym, ◌∙◌}
+use Rattle.answer.specs.Frames.{non_zero_line}
 use Rattle.answer.specs.Texts.{cardrun_text}
-use Rattle.answer.specs.Wrote.{◌then◌}
-use Rattle.answer.proofs.Laws.{no_ram}
+use Rattle.answer.proofs.Writes.{◌then◌, lines}
 use Rattle.answer.proofs.texts.cardrun_text.Goals as goal
 
 pub returns-then-refused : goal.returns-then-refused
@@ -12,5 +12,7 @@ returns-then-refused c = rw (sym c.refused.ensures ∙ c.if-refused.true) c.refu
 pub returns : goal.returns
 unfolding cardrun_text
 returns c =
-    rw (sym c.refused.ensures ∙ c.if-refused.false)
-    (c.put_frame-a.ensures.0 then (rw no_ram at c.put_each-b.ensures.0) then c.put_frame-end.ensures.0)
+    let a = c.each.ensures in
+    let b = lines 33 1 (non_zero_line c.args.ran.machine) (λ k r l h. search rules) (a.0, a.1, a.2) in
+    let p = (rw c.from.ensures at c.line.ensures.0) then b then c.register.ensures.0 in
+    rw (sym c.refused.ensures ∙ c.if-refused.false) (search rules)

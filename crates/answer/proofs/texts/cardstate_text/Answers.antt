@@ -1,7 +1,7 @@
 -- The pieces are written one after the other.
-use mathlib.Core.Path.{sym, ◌∙◌}
+use Rattle.std.proofs.Common.{rules, sym, ◌∙◌}
 use Rattle.answer.specs.Texts.{cardstate_text}
-use Rattle.answer.specs.Wrote.{◌then◌}
+use Rattle.answer.proofs.Writes.{◌then◌}
 use Rattle.answer.proofs.texts.cardstate_text.Goals as goal
 
 pub returns-then-refused : goal.returns-then-refused
@@ -11,4 +11,5 @@ returns-then-refused c = rw (sym c.refused.ensures ∙ c.if-refused.true) c.refu
 pub returns : goal.returns
 unfolding cardstate_text
 returns c =
-    rw (sym c.refused.ensures ∙ c.if-refused.false) (c.put_frame-a.ensures.0 then c.put_state-end.ensures)
+    let p = (rw c.from.ensures at c.line.ensures.0) then c.state.ensures in
+    rw (sym c.refused.ensures ∙ c.if-refused.false) (search rules)

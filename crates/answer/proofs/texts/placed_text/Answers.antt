@@ -1,17 +1,16 @@
 -- The pieces are written one after the other.
-use borrow.Author.Rules.{rules}
+use Rattle.std.proofs.Common.{rules}
+use Rattle.answer.specs.Frames.{memory_line, slot_line}
 use Rattle.answer.specs.Placed.{placed_text}
-use Rattle.answer.specs.Wrote.{◌then◌}
+use Rattle.answer.proofs.Writes.{◌then◌, lines}
 use Rattle.answer.proofs.texts.placed_text.Goals as goal
-
-pub put_text-requires : goal.put_text-requires
-put_text-requires c = search (rules, c.put_each-b.ensures.1, c.put_each-a.ensures.1, c.ranges.used)
 
 pub returns : goal.returns
 unfolding placed_text
 returns c =
-    rw (← c.fresh-m.ensures)
-    (c.put_each-a.ensures.0
-    then c.put_each-b.ensures.0
-    then c.put_preset-c.ensures.0
-    then c.put_text.ensures)
+    let a = c.each.ensures in
+    let b = rw c.from.ensures at c.each-2.ensures in
+    let d = lines 8192 0 (memory_line c.args.ram.now) (λ k r l h. search rules) (a.0, a.1, a.2) in
+    let e = lines c.args.used 0 (slot_line c.args.tlb.now) (λ k r l h. search rules) (b.0, b.1, b.2) in
+    let p = d then e then c.preset.ensures.0 then c.bytes.ensures in
+    search rules

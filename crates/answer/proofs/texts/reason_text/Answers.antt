@@ -1,16 +1,6 @@
--- The fields are written one after the other, and LF.
-use native.Mathlib.Omega.{arith}
-use Rattle.answer.specs.Placed.{reason_text}
-use Rattle.answer.specs.Wrote.{◌then◌, one}
+use Rattle.std.proofs.Common.{rules, ◌∙◌, length-append}
+use Rattle.answer.proofs.Laws.{length_hex}
 use Rattle.answer.proofs.texts.reason_text.Goals as goal
 
 pub returns : goal.returns
-unfolding reason_text
-returns c = (
-  c.put_hex-a.ensures.0
-      then c.put_hex-b.ensures.0
-      then c.put_hex-c.ensures.0
-      then c.put_hex-d.ensures.0
-      then one c.put.ensures,
-  omega arith,
-)
+returns c = (search rules, c.line.ensures.0.wrote.ends ∙ simp (length-append, length_hex))

@@ -1,4 +1,5 @@
--- The rulebook's fetch and data access, and the effect of a step.
+-- The rulebook's fetch and data access, memory as they see it, and the effect of a step.
+pub mod Memory
 pub mod Effect
 pub mod Access
 pub mod Fetch

@@ -1,6 +1,6 @@
 // The data access of a step, once its address is translated.
 ghost use Rattle.std.specs.Prelude.{◌≡◌};
-ghost use Rattle.memory.specs.Memory.{read};
+ghost use Rattle.access.specs.Memory.{look};
 ghost use Rattle.access.specs.Access as Rule;
 
 use crate::build::{counted, raised, stopped};
@@ -51,7 +51,7 @@ pub fn got(op: LoadOp, reg: usize, old: u64, p: PAddr, x: Option<Eight>) -> Effe
 // A load, once its address is translated.
 #[tactic(auto, unfolding(crate::specs::Access::loaded))]
 pub fn loaded(op: LoadOp, reg: usize, old: u64, v: VAddr, m: &Memory, x: Where) -> Effect
-    ensures { result ≡ Rule.loaded op reg old v (read m.now.ram.now m.now.rom.now) x }
+    ensures { result ≡ Rule.loaded op reg old v (look m.now) x }
 {
     match x {
         Where::Mapped(p, _) | Where::Unmapped(p) => got(op, reg, old, p, m.read(p)),
@@ -114,7 +114,7 @@ pub fn saved(
     m: &Memory,
     x: Where,
 ) -> Effect
-    ensures { result ≡ Rule.saved op reg link value v (read m.now.ram.now m.now.rom.now) x }
+    ensures { result ≡ Rule.saved op reg link value v (look m.now) x }
 {
     match x {
         Where::Mapped(_, h) if !h.dirty => raised(Exception::Mod(v)),

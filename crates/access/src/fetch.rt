@@ -1,7 +1,7 @@
 // The fetch: the word at PC, once PC is translated.
 ghost use Rattle.std.specs.Prelude.{◌≡◌};
 ghost use Rattle.memory.specs.Loads.{lwu};
-ghost use Rattle.memory.specs.Memory.{read};
+ghost use Rattle.access.specs.Memory.{look};
 ghost use Rattle.access.specs.Fetch as Rule;
 
 use crate::{Memory, Unfetched};
@@ -31,7 +31,7 @@ fn word_found(p: PAddr, x: Option<Eight>) -> Result<u32, Unfetched>
 // The word at PC, once PC is translated, or what comes of it instead.
 #[tactic(auto, unfolding(crate::specs::Fetch::word_at))]
 pub fn word_at(pc: VAddr, m: &Memory, x: Where) -> Result<u32, Unfetched>
-    ensures { result ≡ Rule.word_at pc (read m.now.ram.now m.now.rom.now) x }
+    ensures { result ≡ Rule.word_at pc (look m.now) x }
 {
     match x {
         Where::Mapped(p, _) | Where::Unmapped(p) => word_found(p, m.read(p)),

@@ -6,7 +6,7 @@ pub mod data; // the data access
 pub mod fetch; // the fetch
 
 ghost use Rattle.std.specs.Prelude.{◌≡◌};
-ghost use Rattle.memory.specs.Memory.{read};
+ghost use Rattle.access.specs.Memory.{look};
 ghost use Rattle.access.specs.Effect as Rule;
 
 use cp0::Exception;
@@ -46,7 +46,7 @@ pub struct Memory<'a> {
 impl Memory<'_> {
     // The eight aligned bytes that hold an address.
     fn read(&self, p: PAddr) -> Option<Eight>
-        ensures { result ≡ read self.now.ram.now self.now.rom.now p }
+        ensures { result ≡ look self.now p }
     {
         memory::read(self.ram, self.rom, p)
     }

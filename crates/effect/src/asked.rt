@@ -1,6 +1,6 @@
 // What an instruction asks for, done: accesses, CP0 moves, TLB operations.
 ghost use Rattle.std.specs.Prelude.{◌≡◌};
-ghost use Rattle.memory.specs.Memory.{read};
+ghost use Rattle.access.specs.Memory.{look};
 ghost use Rattle.flow.specs.Address.{after_slot};
 ghost use Rattle.effect.specs.Step as Rule;
 
@@ -107,7 +107,7 @@ fn after_slot(pc: u64) -> u64
 // What an instruction asks for is done; `value` is that of its register rt.
 #[tactic(auto, unfolding(crate::specs::Step::asked))]
 pub fn asked(v: &View, value: u64, x: Act) -> Effect
-    ensures { let v = v.now in result ≡ Rule.asked v.cpu v.cp0 v.tlb.now (read v.memory.ram.now v.memory.rom.now) value x }
+    ensures { let v = v.now in result ≡ Rule.asked v.cpu v.cp0 v.tlb.now (look v.memory) value x }
 {
     match x {
         Act::Nothing => turned(Turn::Next),
@@ -165,7 +165,7 @@ pub fn commanded(v: &View, x: Command) -> Effect
 // What an instruction does or asks for.
 #[tactic(auto, unfolding(crate::specs::Step::executed))]
 pub fn executed(v: &View, value: u64, x: Executed) -> Effect
-    ensures { let v = v.now in result ≡ Rule.executed v.cpu v.cp0 v.tlb.now (read v.memory.ram.now v.memory.rom.now) v.lines value x }
+    ensures { let v = v.now in result ≡ Rule.executed v.cpu v.cp0 v.tlb.now (look v.memory) v.lines value x }
 {
     match x {
         Executed::Plain(a) => asked(v, value, a),

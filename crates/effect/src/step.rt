@@ -1,7 +1,7 @@
 // One step in order: interrupt, fetch, decode, execute, and what the instruction asks for.
 ghost use Rattle.std.specs.Prelude.{◌≡◌};
 ghost use Rattle.cp0.specs.Status.{CU0};
-ghost use Rattle.memory.specs.Memory.{read};
+ghost use Rattle.access.specs.Memory.{look};
 ghost use Rattle.effect.specs.Step as Rule;
 
 use crate::View;
@@ -17,7 +17,7 @@ use usability::Unready;
 // A word that may be executed, or what it raises or stops instead.
 #[tactic(auto, unfolding(crate::specs::Step::readied))]
 fn readied(v: &View, w: u32, x: Result<Instr, Unready>) -> Effect
-    ensures { let v = v.now in result ≡ Rule.readied v.cpu v.cp0 v.regs.now v.tlb.now (read v.memory.ram.now v.memory.rom.now) v.lines w x }
+    ensures { let v = v.now in result ≡ Rule.readied v.cpu v.cp0 v.regs.now v.tlb.now (look v.memory) v.lines w x }
 {
     match x {
         Ok(i) => {
@@ -42,7 +42,7 @@ fn cu0(status: u32) -> bool
 // A fetched word is decoded.
 #[tactic(auto, unfolding(crate::specs::Step::decoded))]
 fn decoded(v: &View, w: u32) -> Effect
-    ensures { let v = v.now in result ≡ Rule.decoded v.cpu v.cp0 v.regs.now v.tlb.now (read v.memory.ram.now v.memory.rom.now) v.lines w }
+    ensures { let v = v.now in result ≡ Rule.decoded v.cpu v.cp0 v.regs.now v.tlb.now (look v.memory) v.lines w }
 {
     let x = usability::checks::ready(
         cp0::user(v.cp0.status),
@@ -56,7 +56,7 @@ fn decoded(v: &View, w: u32) -> Effect
 // The fetched word is decoded, or the step is what the fetch came to instead.
 #[tactic(auto, unfolding(crate::specs::Step::begun))]
 fn begun(v: &View, x: Result<u32, Unfetched>) -> Effect
-    ensures { let v = v.now in result ≡ Rule.begun v.cpu v.cp0 v.regs.now v.tlb.now (read v.memory.ram.now v.memory.rom.now) v.lines x }
+    ensures { let v = v.now in result ≡ Rule.begun v.cpu v.cp0 v.regs.now v.tlb.now (look v.memory) v.lines x }
 {
     match x {
         Ok(w) => decoded(v, w),
@@ -68,7 +68,7 @@ fn begun(v: &View, x: Result<u32, Unfetched>) -> Effect
 // What a step comes to: the interrupt, then the fetch.
 #[tactic(auto, unfolding(crate::specs::Step::effect_of))]
 pub fn effect_of(v: &View) -> Effect
-    ensures { let v = v.now in result ≡ Rule.effect_of v.cpu v.cp0 v.regs.now v.tlb.now (read v.memory.ram.now v.memory.rom.now) v.lines }
+    ensures { let v = v.now in result ≡ Rule.effect_of v.cpu v.cp0 v.regs.now v.tlb.now (look v.memory) v.lines }
 {
     if cp0::interrupted(v.cp0.status, v.cp0.cause, v.lines) {
         return raised(Exception::Int);

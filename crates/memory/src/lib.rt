@@ -46,12 +46,12 @@ fn in_ram(ram: &[u8], p: PAddr) -> bool
     p.0 / 8 < (ram.len() / 8) as u64
 }
 
-// The number that the first eight bytes are, the first on top. A loop, since `from_be_bytes` would need an array (.ci/arrays);
-// with `|` it becomes one read and a swap of bytes.
+// The number that the first eight bytes are, the first on top; with `|` it becomes one read and a swap of bytes.
 fn eight_of(l: &[u8]) -> u64
     requires { 8 ≤ length l.now }
     ensures { result ≡ B.eight_of l.now }
 {
+    // Kept: a loop, since `from_be_bytes` takes an array, which .ci/arrays refuses here.
     let mut n = 0;
     for x in &l[..8] {
         n = n << 8 | u64::from(*x);

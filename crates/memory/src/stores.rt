@@ -110,11 +110,12 @@ fn lands(ram: &[u8], s: Store) -> bool
     in_ram(ram, s.to) && 1 <= s.size && s.to.0 % 8 + u64::from(s.size) <= 8
 }
 
-// The bytes of a store into a list, the top one first. A loop, since `to_be_bytes` would need an array (.ci/arrays).
+// The bytes of a store into a list, the top one first.
 fn put(ram: &mut [u8], s: Store)
     requires { (s.size ≤ 8) × (s.to.0 + s.size ≤ length ram.old) }
     ensures { ram.new ≡ sets ram.old s.to.0 (B.bytes_of s.size s.value) }
 {
+    // Kept: a loop, since `to_be_bytes` gives an array, which .ci/arrays refuses here.
     let at = s.to.0 as usize;
     for k in 0..s.size {
         ram[at + k as usize] = byte(s.value, s.size - 1 - k);

@@ -1,4 +1,4 @@
--- Registers and numbers, over the width: which register holds a number, and what the code of sign extension gives.
+-- Registers and numbers, over the width: which register holds a number, and what is read of one.
 use Rattle.std.proofs.Common.{◌≡◌, ℕ, suc, ◌-◌, ◌%◌, ◌^◌, ◌<◌, ◌≤◌, ℤ, pos, negsuc, sym, ap, ◌∙◌, mod-eq_of_lt, w64, Fits, SFits, to_z, of_z, le-ltb}
 use lib.Signed.{mag}
 use mir.Syntax.{Width}

@@ -3,8 +3,6 @@ use mathlib.Core.Path.{refl}
 use Rattle.promise.specs.Unique.{Unique, same}
 use Rattle.place.proofs.making.image_text.Kinds as image-text-kinds
 use Rattle.place.proofs.making.image_text.Reads as image-text-reads
-use Rattle.place.proofs.refusals.same_bytes.Kinds as same-bytes-kinds
-use Rattle.place.proofs.refusals.same_bytes.Reads as same-bytes-reads
 use Rattle.place.proofs.Refusal.number.Kinds as number-kinds
 use Rattle.place.proofs.Refusal.number.Reads as number-reads
 use Rattle.place.proofs.Refusal.file.Kinds as file-kinds
@@ -15,9 +13,6 @@ use Rattle.place.proofs.Refusal.about.Reads as about-reads
 -- the answer and the lent buffer
 pub image_text_once : Unique image-text-kinds.ps image-text-kinds.r image-text-reads.Pre image-text-reads.Post
 image_text_once κs a p z₁ z₂ ws₁ ws₂ h₁ h₂ = (same h₁.answer h₂.answer, λ i. (tt, (tt, (tt, (tt, (same h₁.buffer h₂.buffer i, tt))))))
-
-pub same_bytes_once : Unique same-bytes-kinds.ps same-bytes-kinds.r same-bytes-reads.Pre same-bytes-reads.Post
-same_bytes_once κs a p z₁ z₂ ws₁ ws₂ h₁ h₂ = (same h₁ h₂, refl)
 
 pub number_once : Unique number-kinds.ps number-kinds.r number-reads.Pre number-reads.Post
 number_once κs a p z₁ z₂ ws₁ ws₂ h₁ h₂ = (same h₁ h₂, refl)

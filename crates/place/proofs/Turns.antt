@@ -87,10 +87,6 @@ module _ (file : ℕ → List ℕ) (past k : ℕ) where
   unfolding programs_refusal
   refused_done h = no_more (λ (m : ℕ). programs_refusal file m k) past k h
 
--- nothing is filled
-pub fill_none : (file : ℕ → List ℕ) (kernel : ℕ) (pages : List (Option Owner)) (ram : List ℕ) (all : ℕ) → take 0 ram ++ bytes_from file kernel pages (all - 0) 0 ≡ bytes_from file kernel pages all 0
-fill_none file kernel pages ram all = ap (λ (n : ℕ). bytes_from file kernel pages n 0) (let e : all - 0 ≡ all = omega arith in e)
-
 -- what is filled, and what is left to fill
 module _ (file : ℕ → List ℕ) (kernel : ℕ) (pages : List (Option Owner)) (ram : List ℕ) (all p : ℕ) (e : length ram ≡ all) where
   pub fill_next : (b : ℕ) → b ≡ byte_at file kernel pages p → p < length ram → take (p + 1) (set ram p b) ++ bytes_from file kernel pages (all - (p + 1)) (p + 1) ≡ take p ram ++ bytes_from file kernel pages (all - p) p

@@ -11,6 +11,7 @@ pub(crate) struct Files<'a> {
 
 impl<'a> Files<'a> {
     // Where file k ends.
+    #[tactic(auto, unfolding(crate::specs::Files::end))]
     fn end(self, k: usize) -> usize
         ensures { result ≡ F.end self.entry.ends.now k }
     {
@@ -19,6 +20,7 @@ impl<'a> Files<'a> {
     }
 
     // Where it begins.
+    #[tactic(auto, unfolding(crate::specs::Files::start))]
     fn start(self, k: usize) -> usize
         ensures { result ≡ F.start self.entry.ends.now k }
     {

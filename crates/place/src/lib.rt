@@ -9,7 +9,6 @@ mod refusals;
 
 use elf::Fault;
 pub use making::image_text;
-pub use refusals::same_bytes;
 
 // Whose a page of RAM is: the program's page, and the program's ASID.
 #[derive(Clone, Copy)]

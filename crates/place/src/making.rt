@@ -11,6 +11,7 @@ use crate::ram::fill;
 use crate::refusals::{files_refusal, undone};
 
 // A word, sign-extended.
+#[tactic(auto, unfolding(crate::specs::Made::extended))]
 fn extended(v: usize) -> u64
     requires { v < 2 ^ 32 }
     ensures { result ≡ M.extended v }
@@ -22,6 +23,7 @@ fn extended(v: usize) -> u64
 }
 
 // The entry point of the first program, sign-extended.
+#[tactic(auto, unfolding(crate::specs::Made::starts))]
 fn starts(files: Files, n: u8) -> u64
     ensures { result ≡ M.starts (F.file_of files.entry) n }
 {
@@ -30,6 +32,7 @@ fn starts(files: Files, n: u8) -> u64
 }
 
 // What is refused of a text by itself and by what it makes.
+#[tactic(auto, unfolding(crate::specs::Made::read_refusal))]
 fn late(text: &[u8], n: u8, tlb: &[u64; 192], ram: &[u8]) -> Result<(), Refusal>
     ensures { result ≡ M.read_refusal text.now n tlb.now ram.now }
 {

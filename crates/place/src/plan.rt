@@ -34,6 +34,7 @@ impl Model for Plan {
 }
 
 // EntryLo of a page of RAM.
+#[tactic(auto, unfolding(crate::specs::Plan::lo_of))]
 fn lo_of(next: usize, writable: bool) -> u64
     requires { next < 16 }
     ensures { result ≡ P.lo_of next writable }
@@ -45,6 +46,7 @@ fn lo_of(next: usize, writable: bool) -> u64
 }
 
 // EntryLo with D as well, if the page is now writable.
+#[tactic(auto, unfolding(crate::specs::Plan::granted))]
 fn granted(lo: u64, writable: bool) -> u64
     ensures { result ≡ P.granted lo writable }
 {
@@ -65,6 +67,7 @@ fn find(tlb: &[u64; 192], hi: u64, used: usize) -> usize
 }
 
 // The slots used, once slot i is.
+#[tactic(auto, unfolding(crate::specs::Plan::more))]
 fn more(used: usize, i: usize) -> usize
     requires { i ≤ 16 }
     ensures { result ≡ P.more used i }
@@ -74,6 +77,7 @@ fn more(used: usize, i: usize) -> usize
 
 impl Plan {
     // A kernel's pages are taken, and nothing else.
+    #[tactic(auto, unfolding(crate::specs::Plan::begun))]
     pub(crate) fn begun(kernel: usize) -> Plan
         ensures { result ≡ P.begun kernel }
     {
@@ -89,6 +93,7 @@ impl Plan {
     }
 
     // The next page of RAM is taken.
+    #[tactic(auto, unfolding(crate::specs::Plan::taken))]
     fn take(&mut self, asid: usize, page: usize, writable: bool, i: usize)
         requires { (i ≤ self.old.used) × ((self.old.next < 16) × ((asid < 4096) × (page < 2 ^ 23))) }
         ensures { self.new ≡ P.taken self.old asid page writable i }
@@ -134,6 +139,7 @@ impl Plan {
     }
 
     // The pages of header i of a program.
+    #[tactic(auto, unfolding(crate::specs::Plan::add_segment))]
     fn add_segment(&mut self, asid: usize, file: &[u8], i: usize)
         requires { asid < 4096 }
         ensures { self.new ≡ P.add_segment self.old asid file.now i }
@@ -153,6 +159,7 @@ impl Plan {
     }
 
     // A program's pages, and its stack's.
+    #[tactic(auto, unfolding(crate::specs::Plan::add_program))]
     fn add_program(&mut self, asid: usize, file: &[u8])
         requires { asid < 4096 }
         ensures { self.new ≡ P.add_program self.old asid file.now }
@@ -172,6 +179,7 @@ impl Plan {
 }
 
 // Where the pages of header i of a kernel end; 0 where it has none.
+#[tactic(auto, unfolding(crate::specs::Plan::top_of))]
 fn top_of(file: &[u8], i: usize) -> usize
     ensures { (result ≡ P.top_of file.now i) × (result ≤ 2 ^ 22) }
 {

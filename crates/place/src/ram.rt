@@ -8,6 +8,7 @@ use crate::files::Files;
 use elf::Space;
 
 // What the owner of a page of RAM has at physical address p.
+#[tactic(auto, unfolding(crate::specs::Ram::owned_byte))]
 fn owned_byte(files: Files, own: Option<Owner>, p: usize) -> u8
     ensures { result ≡ R.owned_byte (F.file_of files.entry) own p }
 {
@@ -21,6 +22,7 @@ fn owned_byte(files: Files, own: Option<Owner>, p: usize) -> u8
 }
 
 // The byte at physical address p.
+#[tactic(auto, unfolding(crate::specs::Ram::byte_at))]
 fn byte_at(files: Files, kernel: usize, pages: &[Option<Owner>; 16], p: usize) -> u8
     requires { p < 65536 }
     ensures { result ≡ R.byte_at (F.file_of files.entry) kernel pages.now p }

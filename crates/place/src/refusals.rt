@@ -75,6 +75,7 @@ fn of_file(k: usize, v: Result<(), Fault>) -> Result<(), Refusal>
 }
 
 // The kernel's fault; alone, it is a program too.
+#[tactic(auto, unfolding(crate::specs::Made::kernel_refusal, crate::specs::Made::kernel_fault))]
 fn kernel_refusal(file: &[u8], n: u8) -> Result<(), Refusal>
     ensures { result ≡ M.kernel_refusal file.now n }
 {
@@ -86,6 +87,7 @@ fn kernel_refusal(file: &[u8], n: u8) -> Result<(), Refusal>
 }
 
 // The fault of program k.
+#[tactic(auto, unfolding(crate::specs::Made::program_refusal))]
 fn program_refusal(files: Files, k: usize) -> Result<(), Refusal>
     ensures { result ≡ M.program_refusal (F.file_of files.entry) k }
 {
@@ -103,6 +105,7 @@ fn programs_refusal(files: Files, n: u8) -> Result<(), Refusal>
 }
 
 // Whether the kernel's word at a physical address is 0.
+#[tactic(auto, unfolding(crate::specs::Made::blank))]
 fn blank(file: &[u8], p: usize) -> bool
     requires { p ≤ 65536 }
     ensures { result ≡ M.blank file.now p }
@@ -111,6 +114,7 @@ fn blank(file: &[u8], p: usize) -> bool
 }
 
 // No code at a vector.
+#[tactic(auto, unfolding(crate::specs::Made::vector_refusal))]
 fn vector_refusal(file: &[u8], n: u8) -> Result<(), Refusal>
     ensures { result ≡ M.vector_refusal file.now n }
 {
@@ -127,6 +131,7 @@ fn vector_refusal(file: &[u8], n: u8) -> Result<(), Refusal>
 }
 
 // What is refused of the files by themselves.
+#[tactic(auto, unfolding(crate::specs::Made::files_refusal))]
 pub(crate) fn files_refusal(files: Files, n: u8) -> Result<(), Refusal>
     ensures { result ≡ M.files_refusal (F.file_of files.entry) n }
 {
@@ -136,14 +141,8 @@ pub(crate) fn files_refusal(files: Files, n: u8) -> Result<(), Refusal>
     vector_refusal(kernel, n)
 }
 
-// Whether two memories hold the same bytes.
-pub fn same_bytes(a: &[u8], b: &[u8]) -> bool
-    ensures { result ≡ M.same a.now b.now }
-{
-    a == b
-}
-
 // What a machine has otherwise than User mode with CU0 clear, ASID 1 and a User PC.
+#[tactic(auto, unfolding(crate::specs::Made::unlike))]
 fn unlike(cpu: Cpu, cp0: Cp0) -> Option<Difference>
     ensures { result ≡ M.unlike cpu cp0 }
 {
@@ -163,6 +162,7 @@ fn unlike(cpu: Cpu, cp0: Cp0) -> Option<Difference>
 }
 
 // What a machine and its RAM have otherwise than was placed.
+#[tactic(auto, unfolding(crate::specs::Made::undone))]
 pub(crate) fn undone(m: &Machine, held: &[u8], tlb: &[u64; 192], ram: &[u8]) -> Option<Difference>
     ensures { result ≡ M.undone m.now held.now tlb.now ram.now }
 {

@@ -1,7 +1,7 @@
 -- A slot more at most, for a page more.
-use mathlib.Core.Path.{refl, ap}
+use mathlib.Core.Path.{ap}
 use native.Mathlib.Omega.{arith}
-use Rattle.place.specs.Plan.{Plan, taken}
+use Rattle.place.specs.Plan.{Plan}
 use Rattle.place.proofs.Pages.{more_least}
 use Rattle.place.proofs.plan.Plan.take.Goals as goal
 
@@ -11,7 +11,3 @@ invariant_of-self c =
     let more = more_least c.self.inside.used c.args.i c.self.inside.next (omega (arith, used, c.requires.0)) c.self.invariant.1 in
     let next = ap (λ (p : Plan). p.next) c.self.view_is in
     (omega (arith, c.more-used.ensures, more, next, c.requires), omega (arith, c.more-used.ensures, more))
-
-pub returns : goal.returns
-unfolding taken
-returns c = rw (← c.self.view_is, c.lo_of.ensures, c.more-used.ensures) refl

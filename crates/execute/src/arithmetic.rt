@@ -38,6 +38,7 @@ pub fn arithmetic(op: ArithmeticOp, rs: u64, rt: u64, rd: usize) -> Act
 }
 
 // The immediate forms, of the extended immediate.
+// Kept: a map from these names to those of the register forms would be as long as this match.
 #[tactic(auto, unfolding(crate::specs::Arithmetic::arithmetic_immediate, crate::specs::Arithmetic::trapping))]
 pub fn arithmetic_immediate(op: ArithmeticImmediateOp, rs: u64, immediate: u64, rt: usize) -> Act
     ensures { result ≡ Arithmetic.arithmetic_immediate op rs immediate rt }

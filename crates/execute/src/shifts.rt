@@ -25,6 +25,7 @@ pub fn shift(op: ShiftOp, rt: u64, sa: u64, rd: usize) -> Act
 }
 
 // By the value of rs.
+// Kept: a map from these names to those of the shifts above would be as long as this match.
 #[tactic(auto, unfolding(crate::specs::Shifts::shift_variable))]
 pub fn shift_variable(op: ShiftVariableOp, rs: u64, rt: u64, rd: usize) -> Act
     ensures { result ≡ Shifts.shift_variable op rs rt rd }

@@ -35,6 +35,7 @@ pub fn trap(op: TrapOp, rs: u64, rt: u64) -> Act
 }
 
 // The immediate forms, of the extended immediate.
+// Kept: a map from these names to those of the register forms would be as long as this match.
 #[tactic(auto, unfolding(crate::specs::Traps::trap_immediate))]
 pub fn trap_immediate(op: TrapImmediateOp, rs: u64, immediate: u64) -> Act
     ensures { result ≡ Traps.trap_immediate op rs immediate }

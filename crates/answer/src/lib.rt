@@ -155,6 +155,7 @@ impl<'a> Text<'a> {
         }
         self.byte(LF);
     }
+
     // A frame, where there is one.
     fn frame(&mut self, f: Option<Frame>)
         requires { self.old.at ≤ 2 ^ 38 }

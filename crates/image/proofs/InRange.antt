@@ -30,7 +30,7 @@ use Rattle.cp0.proofs.KeepsRange.{fresh_in_range}
 use Rattle.effect.specs.declared.Cpu.{Cpu}
 use Rattle.card.specs.declared.Machine.{Machine}
 use Rattle.card.specs.Machine.{fresh, fresh_slots, in_range, cpu_in_range}
-use Rattle.image.specs.Allowed.{register_allowed, move_allowed, slot_allowed, allowed}
+use Rattle.image.specs.Allowed.{register_allowed, allowed}
 use Rattle.image.specs.declared.Refusal.{Refusal}
 use Rattle.image.specs.Refusals.{refusal, is_budget, refusal_of, first_of, image_refusal, size}
 use Rattle.image.specs.Acts.{regs_set, cpu_set, moved, Loaded, act, line_act, acts}

@@ -8,10 +8,9 @@ use native.Mathlib.Numerals.{add-one}
 use native.Mathlib.Omega.{arith}
 use lib.ListN.{length, drop, replicate, length-drop}
 use lib.Seq.{take_all}
-use Rattle.std.specs.Prelude.{Option, Some, None, option_map, unwrap_or, MatchOption}
+use Rattle.std.specs.Prelude.{Option, Some, None, unwrap_or, MatchOption}
 use Rattle.std.specs.Borrow.{Bor}
 use Rattle.std.specs.List.{slice_range}
-use Rattle.std.specs.Option.{option_or}
 use Rattle.promise.specs.Pick.{pick, either}
 use Rattle.frame.specs.Line.{line_of, Lines, done, unended, line, lines_of}
 use Rattle.frame.specs.Frame.{frame_of}
@@ -19,9 +18,8 @@ use Rattle.frame.specs.declared.Frame.{Frame}
 use Rattle.frame.proofs.Lines.{next, last}
 use Rattle.card.specs.declared.Machine.{Machine}
 use Rattle.card.specs.Machine.{fresh}
-use Rattle.image.specs.declared.Refusal.{Refusal}
 use Rattle.image.specs.Refusals.{refusal, is_budget, refusal_of, first_of}
-use Rattle.image.specs.Acts.{Loaded, loaded, act, line_act, acts}
+use Rattle.image.specs.Acts.{Loaded, loaded, line_act, acts}
 use Rattle.image.specs.Image.{image, loaded_by, Has}
 use Rattle.image.specs.Lines.{Begins}
 use Rattle.image.proofs.Cases.{passed}

@@ -1,5 +1,5 @@
 -- Which values a frame may have; any other is refusal 7.
-use Rattle.std.specs.Prelude.{ℕ, ◌%◌, Bool, true, false, eqb, leb}
+use Rattle.std.specs.Prelude.{ℕ, ◌%◌, Bool, true, eqb, leb}
 use Rattle.std.specs.Result.{is_ok}
 use Rattle.promise.specs.Pick.{both, either, not}
 use Rattle.frame.specs.Frame.{PC}

@@ -3,7 +3,6 @@ use Rattle.std.specs.Prelude.{ℕ, false, None, ◌≡◌, refl, List, [], ◌�
 use Rattle.frame.specs.Line.{line_of, before, lines_of}
 use Rattle.frame.specs.Digits.{number_from, number}
 use Rattle.frame.specs.Frame.{framed, frame_of}
-use Rattle.image.specs.Allowed.{register_allowed, address_allowed, allowed}
 use Rattle.image.specs.Refusals.{first_of}
 
 -- 02000000002408000501084821, 0122ffffffff80000000 and 0300000002, each with its LF

@@ -38,7 +38,7 @@ fn load(text: &[u8], ram: &mut [u8]) -> Image
     let mut rest = text;
     while let Some(line) = first_line(rest) {
         if let Some(f) = frame::frame_of(line.chars) {
-            act(f, &mut machine, &mut *ram, &mut budget);
+            act(f, &mut machine, ram, &mut budget);
         }
         rest = line.after.unwrap_or(&[]);
     }
@@ -54,12 +54,12 @@ fn load(text: &[u8], ram: &mut [u8]) -> Image
 pub fn read_image(text: &[u8], ram: &mut [u8]) -> Image
     ensures { (result ≡ I.image_of text.now ram.old) × (ram.new ≡ I.ram_after text.now ram.old) }
 {
-    match refusals::image_refusal(text, &*ram) {
+    match refusals::image_refusal(text, ram) {
         Some(r) => Image {
             machine: card::fresh(),
             budget: 0,
             refusal: Some(r),
         },
-        None => load(text, &mut *ram),
+        None => load(text, ram),
     }
 }

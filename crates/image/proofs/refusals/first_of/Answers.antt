@@ -1,5 +1,4 @@
 use Rattle.std.proofs.Common.{arith, sym, ◌∙◌}
-use Rattle.image.specs.Lines.{Begins}
 use Rattle.image.proofs.Turns.{first_done, first_unended, first_refused, first_next}
 use Rattle.image.proofs.refusals.first_of.Goals as goal
 

@@ -1,4 +1,4 @@
--- What an instruction raises by itself is Ov, Tr, Sys or Bp: group by group.
+-- What an instruction raises by itself, before memory is asked, is Ov, Tr, Sys or Bp.
 use Prim.Native.Nat.{ℕ}
 use native.Mathlib.Omega.{arith}
 use mathlib.Core.Path.{◌≡◌}

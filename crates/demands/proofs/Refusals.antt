@@ -1,23 +1,16 @@
 -- Refusals: the four tests in order give one of five verdicts, and each number is that of just one of them.
-use Prim.Native.Nat.{ℕ, ◌%◌, ◌≤◌}
+use Prim.Native.Nat.{ℕ, ◌≤◌}
 use native.Mathlib.Omega.{arith}
 use mathlib.Core.Path.{◌≡◌, refl, ◌∙◌, ap}
-use mathlib.Core.Bool.{Bool, true, false}
+use mathlib.Core.Bool.{true}
 use mathlib.Core.Logic.{◌⊎◌, ◌↔◌, inl, inr}
 use lib.ListN.{length}
-use Rattle.card.specs.Run.{Whole, whole, eights, ram_fits, refusal_by, refusal, run_of}
+use Rattle.card.specs.Run.{Whole, whole, ram_fits, refusal_by, refusal, run_of}
 use Rattle.demands.specs.Call.{Call, run}
-use Rattle.demands.specs.Refusals.{BadRam, BadRom, BadLines, BadMachine, Accepted, Refusals}
+use Rattle.demands.specs.Refusals.{RamFits, BadRam, BadRom, BadLines, BadMachine, Accepted, Refusals}
 use Rattle.demands.specs.Runs.{after}
 use Rattle.demands.proofs.StepStops.{stop_least}
 use Rattle.demands.proofs.Runs.{On, Stops, ends}
-
-true_or : (b : Bool) → (b ≡ true → ⊥) → b ≡ false
-true_or b n = grind arith
-
--- the test of a length, in plain inequalities
-pub eights_read : (least most n : ℕ) → eights least most n ≡ true → (n % 8 ≡ 0) × (least ≤ n) × (n ≤ most)
-eights_read least most n e = grind arith
 
 module _ (c : Call) where
   abbrev number : ℕ
@@ -27,7 +20,7 @@ module _ (c : Call) where
 
   pub bad_ram : (number ≡ 1) ↔ BadRam c
   unfolding refusal_by
-  bad_ram = (λ e f. grind arith, λ b. let t : ram_fits (length c.ram) ≡ false = true_or _ (λ e. b (eights_read 8 16777216 _ e)) in grind arith)
+  bad_ram = (λ e f. grind arith, λ b. let r : ram_fits (length c.ram) ≡ true → RamFits c = λ e. grind arith in grind arith)
 
   bad_rom : (number ≡ 2) ↔ BadRom c
   unfolding refusal_by

@@ -67,6 +67,7 @@ unfolding goes_out
 out_near op p value = grind arith
 
 module _ (cpu : Cpu) (cp0 : Cp0) (regs tlb : List ℕ) (u : user cp0.status ≡ true) (l : CU0 cp0.status ≡ false) (look : PAddr → Option Eight) where
+  -- so what goes out, where its address is translated, stays in what a User may store to
   sent_confined : (op : StoreOp) (reg value : ℕ) (b : Bool) (p : PAddr) (x : Option Eight) → ReachedDirty tlb (asid_of cp0.entryhi) p.0 → Confined tlb (asid_of cp0.entryhi) (sent op reg b value p x).store
   unfolding sent sending raised turned
   sent_confined op reg value b p x d = let o = within {s = goes_out op p value} (dirty_near _ (out_near op p value) d) in grind (arith, nowhere, o)
@@ -84,6 +85,7 @@ module _ (cpu : Cpu) (cp0 : Cp0) (regs tlb : List ℕ) (u : user cp0.status ≡ 
   saved_confined op reg value align b v Double e = nowhere
   saved_confined op reg value align b v AddressError e = nowhere
 
+  -- a step in User mode
   effect_calm : (lines : ℕ) → Calm (effect_of cpu cp0 regs tlb look lines).turn
   unfolding effect_of begun step.decoded readied executed asked wrote loaded saved sent sending got linking raised turned stopped
   effect_calm lines = grind (arith, next, branch, skip, hilo, link, enter, stay, no_command)

@@ -73,7 +73,7 @@ alike B =
 -- slot 2 with an EntryHi of ASID 2 that is not global is a neighbour's
 theirs : (hi₁ lo₁ hi₂ lo₂ : ℕ) → global_of hi₂ ≡ false → asid_of hi₂ ≡ 2 → Neighbour (slots hi₁ lo₁ hi₂ lo₂) 1 2
 unfolding slots slot_at
-theirs hi₁ lo₁ hi₂ lo₂ g a = record { not_global = g; other = λ e. let z : ◌≡◌ {A = ℕ} 1 2 = sym e ∙ a in omega arith }
+theirs hi₁ lo₁ hi₂ lo₂ g a = record { not_global = g; other = λ e. cc }
 
 pub shared : Shared
 shared =

@@ -31,6 +31,7 @@ pub fn slot_in_range(s: Slot) -> bool
 }
 
 // All 48 slots are in range.
+// Kept: a `for`, since the search does not prove `all` over a range of numbers here.
 #[tactic(auto, using(crate::proofs::StaysInRange::in_range_each, crate::proofs::StaysInRange::each_in_range))]
 pub fn tlb_in_range(tlb: &[u64; 192]) -> bool
     ensures { result ≡ R.tlb_in_range tlb.now }

@@ -41,7 +41,7 @@ use Rattle.image.specs.Refusals.{first_of, image_refusal}
 use Rattle.image.specs.Acts.{act, acts}
 use Rattle.image.specs.Image.{image, loaded_by, image_of, ram_after}
 use Rattle.image.specs.Example.{text}
-use Rattle.answer.specs.Digits.{character, digit, hex_of}
+use Rattle.answer.specs.Digits.{hex_of}
 use Rattle.answer.specs.Frames as printing
 use Rattle.answer.specs.Texts.{cardrun_text}
 use Rattle.cardrun_main.specs.Printed.{printed}
@@ -60,7 +60,7 @@ unfolding image_of ram_after image_refusal loaded_by line_of before lines_of dig
 is_read ram h = (rw h, rw h)
 
 is_run : cardrun_text (ran (run_of [] 0 2 start loaded)) ≡ answer
-unfolding run_of refusal_by in_range cpu_in_range cp0_in_range entries_in_range control_in_range random_in_range status_in_range config_in_range built_status legal_mask trailing_ones ones ones_in count_trailing_zeros tlb_in_range slots_in_range slot_in_range slot_at hi_in_range lo_in_range steps step_of apply put_reg put_slot put_bytes cp0.fresh fresh_slots effect_of interrupted cause_read word_at word_found translate aligned extended extend register segment upper mode_of user begun read part eight_of decoded readied ready usable allowed in_place lwu span decode_by entry_in by_major majors specials regimms executed execute arithmetic_immediate arithmetic sum asked wrote cpu_after onward cp0_after ended counted timed drawn cp0.set cardrun_text printing.each printing.line_of printing.non_zero printing.register printing.frame hex_of digit character
+unfolding run_of refusal_by in_range cpu_in_range cp0_in_range entries_in_range control_in_range random_in_range status_in_range config_in_range built_status legal_mask trailing_ones ones ones_in count_trailing_zeros tlb_in_range slots_in_range slot_in_range slot_at hi_in_range lo_in_range steps step_of apply put_reg put_slot put_bytes cp0.fresh fresh_slots effect_of interrupted cause_read word_at word_found translate aligned extended extend register segment upper mode_of user begun read part eight_of decoded readied ready usable allowed in_place lwu span decode_by entry_in by_major majors specials regimms executed execute arithmetic_immediate arithmetic sum asked wrote cpu_after onward cp0_after ended counted timed drawn cp0.set cardrun_text printing.each hex_of
 is_run = refl
 
 pub worked : Worked

@@ -73,7 +73,7 @@ impl Stop {
     }
 }
 
-// All that a step does: how it goes on, a register (0: none) and its value, a slot, a store, and why the run stops.
+// All that a step does: how it goes on, a register (0: none, as r0 is never written) and its value, a slot, a store, and why the run stops.
 #[derive(Clone, Copy)]
 pub struct Effect {
     pub turn: Turn,

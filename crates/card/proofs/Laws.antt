@@ -1,11 +1,32 @@
--- The turns of a run's loop.
-use Rattle.std.proofs.Common.{ℕ, suc, ◌+◌, ◌-◌, ◌<◌, ◌≤◌, ◌≡◌, sym, ◌∙◌, ap, true, false, List, arith, eq-eqb, ne_eqb}
+-- What the code of a step did is a step, and the turns of a run's loop.
+use Rattle.std.proofs.Common.{ℕ, suc, ◌+◌, ◌-◌, ◌<◌, ◌≤◌, ◌≡◌, refl, sym, ◌∙◌, ap, true, false, List, arith, eq-eqb, ne_eqb}
 use Rattle.std.proofs.Math.Dec.{eqb}
+use Rattle.memory.specs.Memory.{read}
+use Rattle.memory.specs.Stores.{put_bytes}
+use Rattle.tlb.specs.Slot.{put_slot}
+use Rattle.cp0.specs.declared.Cp0.{Cp0}
+use Rattle.access.specs.declared.Effect.{Effect}
+use Rattle.access.specs.Effect.{number_of}
+use Rattle.effect.specs.declared.Cpu.{Cpu}
+use Rattle.effect.specs.Step.{effect_of}
+use Rattle.effect.specs.After.{cpu_after, cp0_after}
 use Rattle.card.specs.declared.Machine.{Machine}
 use Rattle.card.specs.declared.Cored.{Cored}
 use Rattle.card.specs.Machine.{machine}
-use Rattle.card.specs.Step.{Did, step_of}
+use Rattle.card.specs.Step.{Did, apply, put_reg, step_of}
 use Rattle.card.specs.Run.{Whole, whole, plus, following, refusal, steps, run_of}
+
+-- what `core` computed and wrote is the outcome
+module _ (cpu : Cpu) (cp0 : Cp0) (regs tlb ram rom : List ℕ) (lines : ℕ) (e : Effect) (E : e ≡ effect_of cpu cp0 regs tlb (read ram rom) lines) where
+  pub core_did :
+      (cpu' : Cpu) (cp0' : Cp0) (regs' tlb' ram' : List ℕ) → cpu' ≡ cpu_after cpu cp0 e.turn → cp0' ≡ cp0_after cpu.pc cpu.slot cp0 e.turn
+      → regs' ≡ put_reg regs e.reg e.value → tlb' ≡ put_slot tlb e.slot → ram' ≡ put_bytes ram e.store
+      → Did (step_of (machine cpu cp0 regs tlb) ram rom lines) (record { cpu = cpu'; cp0 = cp0'; stop = number_of e.stop }) regs' tlb' ram'
+  unfolding step_of apply
+  core_did cpu' cp0' regs' tlb' ram' p z a b c =
+      rw (← E, p, z, a, b, c) (record { machine = refl; stop = refl; memory = refl })
+
+-- ---- the loop
 
 plus_plus : (i k : ℕ) (w : Whole) → plus i (plus k w) ≡ plus (i + k) w
 plus_plus i k w = let e : i + (k + w.steps) ≡ i + k + w.steps = omega arith in ap (λ (n : ℕ). whole w.machine w.ram n w.stop) e

@@ -15,6 +15,7 @@ fn eights(least: usize, most: usize, n: usize) -> bool
 }
 
 // The first of the refusals 1 to 4 that applies, 0 for none.
+// Kept: a number, since document 01's table is what people read.
 #[tactic(auto, unfolding(crate::specs::Run::refusal_by))]
 pub fn refusal(
     cpu: Cpu,

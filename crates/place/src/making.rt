@@ -16,10 +16,7 @@ fn extended(v: usize) -> u64
     requires { v < 2 ^ 32 }
     ensures { result ≡ M.extended v }
 {
-    if v < 0x80000000 {
-        return v as u64;
-    }
-    v as u64 + 0xffffffff00000000
+    i64::from((v as u32).cast_signed()).cast_unsigned()
 }
 
 // The entry point of the first program, sign-extended.
@@ -27,7 +24,7 @@ fn extended(v: usize) -> u64
 fn starts(files: Files, n: u8) -> u64
     ensures { result ≡ M.starts (F.file_of files.entry) n }
 {
-    let first = if n == 0 { 0 } else { 1 };
+    let first = usize::from(n != 0);
     extended(elf::entry(files.file(first)))
 }
 
@@ -63,7 +60,7 @@ fn text_of(
     requires { length out.old ≡ 65536 }
     ensures { M.Answered result out.new (M.text_answer tlb.now ram.now used n pc settings.now) (sets out.old 0 (M.written tlb.now ram.now used n pc settings.now)) }
 {
-    let end = answer::placed_text(&mut *out, ram, tlb, used, n != 0, pc, settings);
+    let end = answer::placed_text(out, ram, tlb, used, n != 0, pc, settings);
     if 65536 < end {
         return Err(Refusal::TooLong(end));
     }
@@ -92,5 +89,5 @@ pub fn image_text(
     let mut ram = [0u8; 65536];
     fill(files, kernel, &plan.pages, &mut ram);
     let pc = starts(files, n);
-    text_of(&ram, &plan.tlb, plan.used as u8, n, pc, settings, &mut *out)
+    text_of(&ram, &plan.tlb, plan.used as u8, n, pc, settings, out)
 }

@@ -39,10 +39,8 @@ fn lo_of(next: usize, writable: bool) -> u64
     requires { next < 16 }
     ensures { result ≡ P.lo_of next writable }
 {
-    if writable {
-        return (next * 64 + 6) as u64;
-    }
-    (next * 64 + 2) as u64
+    let bits = if writable { 6 } else { 2 };
+    (next * 64 + bits) as u64
 }
 
 // EntryLo with D as well, if the page is now writable.

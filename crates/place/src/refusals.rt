@@ -68,10 +68,7 @@ impl Refusal {
 fn of_file(k: usize, v: Result<(), Fault>) -> Result<(), Refusal>
     ensures { result ≡ M.of_file k v }
 {
-    match v {
-        Ok(()) => Ok(()),
-        Err(f) => Err(Refusal::File(k, f)),
-    }
+    v.map_err(|f| Refusal::File(k, f))
 }
 
 // The kernel's fault; alone, it is a program too.

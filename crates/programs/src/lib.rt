@@ -1,5 +1,5 @@
 // The programs as functions that return the status they end with.
-#![tactic(auto)]
+#![tactic(auto, using(crate::proofs::Known::known))]
 
 ghost use Rattle.programs.specs.Statuses.{IsStatus};
 

@@ -26,7 +26,7 @@ use Rattle.access.specs.declared.Turn.{Turn}
 use Rattle.access.specs.declared.Turn.TheVariants as turn
 use Rattle.access.specs.declared.Effect.{Effect}
 use Rattle.access.specs.Effect.{effects}
-use Rattle.access.specs.Access.{linking, sending}
+use Rattle.access.specs.Access.{linking, if_linked, sending}
 
 -- the turn is the entry of an exception
 abbrev pub entering : Turn → Bool
@@ -57,7 +57,13 @@ pub linking_on : (op : LoadOp) (p : PAddr) → entering (linking op p) ≡ false
 unfolding linking
 linking_on op p = grind arith
 
--- SC and SCD send out the same or nothing
+-- what SC and SCD let through is the same or nothing
+if_linked_lem : (s : List ℕ) (link : Bool) (w : Store) → put_answer s (Some w) ≡ Ok tt → put_answer s (if_linked link w) ≡ Ok tt
+unfolding put_answer
+if_linked_lem s true w h = h
+if_linked_lem s false w h = refl
+
+-- so they send out what lands
 pub sending_on : (s : List ℕ) (op : StoreOp) (reg : ℕ) (link : Bool) (w : Store) → put_answer s (Some w) ≡ Ok tt → On s (sending op reg link w)
 unfolding sending put_answer
 sending_on s op reg link w h = grind arith

@@ -20,9 +20,11 @@ use Rattle.cp0.specs.Status.{CU0, user}
 use Rattle.decode.specs.declared.Instr.{Instr}
 use Rattle.decode.specs.declared.Undecoded.{Undecoded}
 use Rattle.decode.specs.declared.StoreOp.{StoreOp}
-use Rattle.usability.specs.Ready.{in_place, allowed, usable, reserved_cop0, ready}
+use Rattle.usability.specs.Ready.{is_cp0, in_place, allowed, usable, reserved_cop0, ready}
 use Rattle.execute.specs.declared.Command.{Command}
+use Rattle.execute.specs.declared.Executed.{Executed}
 use Rattle.execute.specs.declared.Executed.TheVariants as done
+use Rattle.flow.specs.declared.Act.{Act}
 use Rattle.execute.specs.LoadStore.{goes_out}
 use Rattle.execute.specs.Execute.{execute}
 use Rattle.effect.specs.declared.Cpu.{Cpu}
@@ -56,6 +58,15 @@ pub record Good (cp0 : Cp0) (tlb : List ℕ) (e : Effect) : Type 0 where
   pub slot : e.slot ≡ None
   pub store : Confined tlb (asid_of cp0.entryhi) e.store
 
+-- it came to an act, and not to a command
+pub data Plainly : Executed → Type 0 where
+  plain : {a : Act} → Plainly (done.Plain a)
+
+-- every instruction but CP0's is plain
+pub plainly : (i : Instr) (pc a b hi lo : ℕ) → is_cp0 i ≡ false → Plainly (execute i pc a b hi lo)
+unfolding execute
+plainly i pc a b hi lo f = grind (arith, plain)
+
 -- where CP0 is locked no CP0 instruction goes on
 pub no_command : (slot : Bool) (d : Result Instr Undecoded) (i : Instr) (pc a b hi lo : ℕ) (c : Command) → ready true false slot d ≡ Ok i → execute i pc a b hi lo ≡ done.Command c → ⊥
 unfolding ready usable allowed in_place reserved_cop0 execute
@@ -84,6 +95,15 @@ module _ (cpu : Cpu) (cp0 : Cp0) (regs tlb : List ℕ) (u : user cp0.status ≡ 
   saved_confined op reg value align b v Refill e = nowhere
   saved_confined op reg value align b v Double e = nowhere
   saved_confined op reg value align b v AddressError e = nowhere
+
+  -- what a plain instruction comes to
+  executed_good : (lines value : ℕ) (x : Executed) → Plainly x → Good cp0 tlb (executed cpu cp0 tlb look lines value x)
+  unfolding executed asked wrote loaded saved sent sending got linking raised turned stopped
+  executed_good lines value (done.Plain a) p = record { turn = grind (arith, next, branch, skip, hilo, link, enter, stay); slot = grind arith; store = confined a }
+    where
+      confined : (a : Act) → Confined tlb (asid_of cp0.entryhi) (asked cpu cp0 tlb look value a).store
+      confined a = grind (arith, nowhere, saved_confined)
+  executed_good lines value (done.Command _) p = elim p [ ]
 
   -- a step in User mode
   effect_calm : (lines : ℕ) → Calm (effect_of cpu cp0 regs tlb look lines).turn

@@ -20,12 +20,14 @@ use Rattle.tlb.specs.Segments.{translate, segment, upper}
 use Rattle.tlb.proofs.Tells.{one_only}
 use Rattle.cp0.specs.declared.Cp0.{Cp0}
 use Rattle.cp0.specs.Status.{CU0, user, mode_of}
+use Rattle.execute.specs.declared.Executed.{Executed}
+use Rattle.execute.specs.declared.Executed.TheVariants as done
 use Rattle.effect.specs.declared.Cpu.{Cpu}
 use Rattle.effect.specs.Step as step
 use Rattle.effect.specs.Step.{leads, asked, executed, readied, begun, effect_of}
 use Rattle.isolation.specs.Reach.{Reached, ReachedDirty}
 use Rattle.isolation.specs.Neighbour.{SameSlots, MatchesNothing, ReachedAlike}
-use Rattle.isolation.proofs.Good.{no_command}
+use Rattle.isolation.proofs.Good.{Plainly, no_command}
 
 pub matches_nothing : MatchesNothing
 unfolding matches_at hits same_space
@@ -91,6 +93,11 @@ reached_alike asid tlb₁ tlb₂ S =
 module _ (cpu : Cpu) (cp0 : Cp0) (regs tlb₁ tlb₂ : List ℕ) (u : user cp0.status ≡ true) (l : CU0 cp0.status ≡ false) (look : PAddr → Option Eight) (S : SameSlots (asid_of cp0.entryhi) tlb₁ tlb₂) where
   leads_swap : (align : ℕ) (v : VAddr) → leads cp0 tlb₁ align v ≡ leads cp0 tlb₂ align v
   leads_swap align v = translate_same tlb₁ tlb₂ (asid_of cp0.entryhi) S (mode_of cp0.status) align v
+
+  executed_swap : (lines value : ℕ) (x : Executed) → Plainly x → executed cpu cp0 tlb₁ look lines value x ≡ executed cpu cp0 tlb₂ look lines value x
+  unfolding executed asked
+  executed_swap lines value (done.Plain a) p = grind (arith, leads_swap)
+  executed_swap lines value (done.Command _) p = elim p [ ]
 
   pub effect_swap : (lines : ℕ) → effect_of cpu cp0 regs tlb₁ look lines ≡ effect_of cpu cp0 regs tlb₂ look lines
   unfolding effect_of begun step.decoded readied executed asked

@@ -54,7 +54,7 @@ fn register(m: &Machine, i: usize) -> u64
 fn non_zero(f: Frame, value: u64) -> Option<Frame>
     ensures { result ≡ F.non_zero f value }
 {
-    if value == 0 { None } else { Some(f) }
+    (value != 0).then_some(f)
 }
 
 // Frame `01` of this number.
@@ -136,6 +136,7 @@ impl<'a> Text<'a> {
     }
 
     // The low `many` digits of a number, the top one first.
+    // Kept: `io::hex` writes more digits than asked for where a number has more, and into a buffer of its own.
     fn hex(&mut self, many: u64, x: u64)
         requires { (self.old.at ≤ 2 ^ 39) × (many ≤ 16) }
         ensures { Put self.old self.new (D.hex_of many x) }

@@ -1,6 +1,6 @@
 // The texts that the programs print, whole.
 ghost use Rattle.std.specs.Prelude.{◌+◌, ◌≤◌, ◌^◌, ◌≡◌};
-ghost use Rattle.answer.specs.Frames.{refusal_frame, register_frame, cp0_frame};
+ghost use Rattle.answer.specs.Frames.{stop_frame, refusal_frame, register_frame, cp0_frame};
 ghost use Rattle.answer.specs.Placed.{preset_text, placed_text, reason_text, word_text};
 ghost use Rattle.answer.specs.Put.{Put};
 ghost use Rattle.answer.specs.Texts as T;
@@ -35,13 +35,21 @@ pub fn cardrun_text(out: &mut [u8], ran: Ran) -> usize
     }
     let m = &ran.machine;
     let mut text = Text { out, at: 0 };
-    text.line(&[(2, 0x0f), (2, u64::from(ran.stop)), (8, ran.steps)]);
+    text.stop(ran.stop, ran.steps);
     text.each(1, 33, |i| non_zero_line(m, i));
     text.register(PC, m.cpu.pc);
     text.at
 }
 
 impl<'a> Text<'a> {
+    // `0f`: the stop's number, and the counted steps.
+    fn stop(&mut self, stop: u8, steps: u64)
+        requires { self.old.at ≤ 2 ^ 38 }
+        ensures { Put self.old self.new (stop_frame stop steps) × (self.new.at ≤ self.old.at + 97) }
+    {
+        self.line(&[(2, 0x0f), (2, u64::from(stop)), (8, steps)]);
+    }
+
     // Frame `01`.
     fn register(&mut self, number: usize, value: u64)
         requires { self.old.at ≤ 2 ^ 38 }
@@ -100,7 +108,7 @@ pub fn cardstate_text(out: &mut [u8], ran: Ran, ram: &[u8]) -> usize
         return refusal_text(out, ran.stop, 0);
     }
     let mut text = Text { out, at: 0 };
-    text.line(&[(2, 0x0f), (2, u64::from(ran.stop)), (8, ran.steps)]);
+    text.stop(ran.stop, ran.steps);
     text.state(&ran.machine, ram);
     text.at
 }

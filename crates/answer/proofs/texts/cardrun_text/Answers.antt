@@ -14,5 +14,5 @@ unfolding cardrun_text
 returns c =
     let a = c.each.ensures in
     let b = lines 33 1 (non_zero_line c.args.ran.machine) (λ k r l h. search rules) (a.0, a.1, a.2) in
-    let p = (rw c.from.ensures at c.line.ensures.0) then b then c.register.ensures.0 in
+    let p = c.stop.ensures.0 then b then c.register.ensures.0 in
     rw (sym c.refused.ensures ∙ c.if-refused.false) (search rules)

@@ -11,5 +11,5 @@ returns-then-refused c = rw (sym c.refused.ensures ∙ c.if-refused.true) c.refu
 pub returns : goal.returns
 unfolding cardstate_text
 returns c =
-    let p = (rw c.from.ensures at c.line.ensures.0) then c.state.ensures in
+    let p = c.stop.ensures.0 then c.state.ensures in
     rw (sym c.refused.ensures ∙ c.if-refused.false) (search rules)

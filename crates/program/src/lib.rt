@@ -53,7 +53,7 @@ pub fn read_whole<I: Read>(from: &mut I, buf: &mut [u8]) -> Result<usize, ReadFa
     ensures { Within result buf.new }
 {
     let mut done = 0;
-    // Each read says how far it came: no index is counted here.
+    // Kept: a loop with a count, since a read may take less than there is room for, and the next goes on behind it.
     while done < buf.len() {
         let more = from.read(&mut buf[done..]).map_err(|_| ReadFailed)?;
         if more == 0 {
@@ -83,12 +83,7 @@ pub fn has_arg<R: Env>(rt: &R, i: usize) -> bool {
 pub fn arg_count<R: Env>(rt: &R, most: usize) -> usize
     ensures { result ≤ most }
 {
-    for i in 0..most {
-        if !has_arg(rt, i) {
-            return i;
-        }
-    }
-    most
+    (0..most).find(|i| !has_arg(rt, *i)).unwrap_or(most)
 }
 
 // The value of a lowercase hexadecimal digit; no other character has one.
@@ -112,53 +107,53 @@ pub fn two_hex_digits(a: u8, b: u8) -> Option<u8>
 
 // Writes a whole answer to standard output and says how the program so ends; where it cannot, with a line.
 pub fn give<R: Print + Eprint>(rt: &R, answer: &[u8], line: &[u8]) -> End {
-    let written = rt.write_all(answer).is_ok();
-    if !written {
-        say(rt, line);
-    }
-    end_of(written)
+    end_of(rt, rt.write_all(answer).is_ok(), line)
 }
 
 // The end of a program that could not read what it wanted, with a line that says so.
 pub fn unread<R: Eprint>(rt: &R, line: &[u8]) -> End
     ensures { result ≡ Unread }
 {
-    say(rt, line);
-    End::Unread
+    ended(rt, End::Unread, line)
 }
 
 // The end of a program whose answer could not be written whole, with a line that says so.
 pub fn unwritten<R: Eprint>(rt: &R, line: &[u8]) -> End
     ensures { result ≡ Unwritten }
 {
-    say(rt, line);
-    End::Unwritten
+    ended(rt, End::Unwritten, line)
 }
 
 // The end of a program that was given wrong arguments, with a line that says which are right.
 pub fn misused<R: Eprint>(rt: &R, line: &[u8]) -> End
     ensures { result ≡ Misused }
 {
-    say(rt, line);
-    End::Misused
+    ended(rt, End::Misused, line)
 }
 
 // The end of a program that refuses what it was asked for, with a line that says why.
 pub fn refused<R: Eprint>(rt: &R, line: &[u8]) -> End
     ensures { result ≡ Refused }
 {
-    say(rt, line);
-    End::Refused
+    ended(rt, End::Refused, line)
 }
 
-// How a program ends by whether all of its answer was written.
-fn end_of(written: bool) -> End
+// An end, with its line.
+fn ended<R: Eprint>(rt: &R, end: End, line: &[u8]) -> End
+    ensures { result ≡ end }
+{
+    say(rt, line);
+    end
+}
+
+// How a program ends by whether all of its answer was written; where it was not, with a line.
+fn end_of<R: Eprint>(rt: &R, written: bool, line: &[u8]) -> End
     ensures { result ≡ end_of written }
 {
     if written {
         End::Answered
     } else {
-        End::Unwritten
+        unwritten(rt, line)
     }
 }
 

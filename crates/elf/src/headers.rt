@@ -21,7 +21,7 @@ pub(crate) fn many(file: &[u8]) -> u16
     half(file, 44)
 }
 
-// The same.
+// The same as a usize, for the crates above; in here a u16 keeps it below 65,536.
 #[tactic(auto, unfolding(crate::specs::Header::count))]
 pub fn count(file: &[u8]) -> usize
     ensures { (result ≡ Headers.count file.now) × (result < 65536) }

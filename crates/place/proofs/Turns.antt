@@ -1,7 +1,7 @@
 -- The turns of the loops: what is left gives what the whole gives.
-use Prim.Native.Nat.{ℕ, suc, ◌+◌, ◌-◌, ◌*◌, ◌<◌, ◌≤◌}
+use Prim.Native.Nat.{ℕ, zero, suc, ◌+◌, ◌-◌, ◌*◌, ◌<◌, ◌≤◌}
 use mathlib.Core.Bool.{Bool}
-use mathlib.Core.Path.{◌≡◌, sym, ap, ◌∙◌}
+use mathlib.Core.Path.{◌≡◌, refl, sym, ap, ◌∙◌}
 use mathlib.Core.List.{List, [], ◌∷◌, ◌++◌, append_assoc, append-nil}
 use native.Mathlib.Omega.{arith}
 use native.Mathlib.Numerals.{add-one}
@@ -10,6 +10,7 @@ use lib.ListN.{length, get_or, set, take}
 use lib.Seq.{take_all, take-suc-set}
 use Rattle.elf.proofs.Turns.{one_more, no_more}
 use Rattle.std.specs.Prelude.{Option, max}
+use Rattle.std.specs.List.{fold, range_with_len}
 use Rattle.place.specs.declared.Owner.{Owner}
 use Rattle.place.specs.Plan.{Plan, find, add, add_run, add_segment, add_segments, add_program, add_programs, top_of, top_from}
 use Rattle.place.specs.Ram.{byte_at, bytes_from}
@@ -66,16 +67,11 @@ module _ (p : Plan) where
     unfolding add_programs
     programs_done h = no_more (λ (n : ℕ). add_programs p file n k) past k h
 
-module _ (file : List ℕ) (n i top : ℕ) where
-  pub top_next : (t : ℕ) → t ≡ top_of file i → (r : ℕ) → r ≡ max top t → i < n → top_from file (n - i) i top ≡ top_from file (n - (i + 1)) (i + 1) r
-  unfolding top_from
-  top_next t g r e h =
-      one_more (λ (k : ℕ). top_from file k i top) n i h
-      ∙ ap (top_from file (n - (i + 1)) (i + 1)) (sym (e ∙ ap (max top) g))
-
-  pub top_done : n ≤ i → top_from file (n - i) i top ≡ top
-  unfolding top_from
-  top_done h = no_more (λ (k : ℕ). top_from file k i top) n i h
+-- where the pages of the headers end, as a fold over them
+pub top_is : (file : List ℕ) (left i top : ℕ) → fold (λ (t k : ℕ). max t (top_of file k)) top (range_with_len i left) ≡ top_from file left i top
+unfolding top_from
+top_is file zero i top = refl
+top_is file (suc left) i top = top_is file left (i + 1) (max top (top_of file i))
 
 -- the programs from number k on, below `past`
 module _ (file : ℕ → List ℕ) (past k : ℕ) where

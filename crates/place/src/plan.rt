@@ -33,6 +33,22 @@ impl Model for Plan {
     ghost invariant = { λ p. (p.used ≤ 16) × (p.used ≤ p.next) };
 }
 
+// EntryHi of a page's pair under an ASID.
+fn key(asid: usize, page: usize) -> u64
+    requires { (asid < 4096) × (page < 2 ^ 23) }
+    ensures { result ≡ P.key asid page }
+{
+    (page / 2 * 8192 + asid) as u64
+}
+
+// Where in the TLB a page's half of slot i stands.
+fn lo_at(i: usize, page: usize) -> usize
+    requires { i ≤ 16 }
+    ensures { (result ≡ P.lo_at i page) × (result < 192) }
+{
+    i * 4 + 2 + page % 2
+}
+
 // EntryLo of a page of RAM.
 #[tactic(auto, unfolding(crate::specs::Plan::lo_of))]
 fn lo_of(next: usize, writable: bool) -> u64
@@ -98,8 +114,8 @@ impl Plan {
     {
         let next = self.next;
         let used = more(self.used, i);
-        self.tlb[i * 4 + 1] = (page / 2 * 8192 + asid) as u64;
-        self.tlb[i * 4 + 2 + page % 2] = lo_of(next, writable);
+        self.tlb[i * 4 + 1] = key(asid, page);
+        self.tlb[lo_at(i, page)] = lo_of(next, writable);
         self.pages[next] = Some(Owner {
             page: page as u32,
             asid,
@@ -113,9 +129,8 @@ impl Plan {
         requires { (asid < 4096) × (page < 2 ^ 23) }
         ensures { self.new ≡ P.add self.old asid page writable }
     {
-        let hi = (page / 2 * 8192 + asid) as u64;
-        let i = find(&self.tlb, hi, self.used);
-        let at = i * 4 + 2 + page % 2;
+        let i = find(&self.tlb, key(asid, page), self.used);
+        let at = lo_at(i, page);
         let lo = self.tlb[at];
         if lo != 0 {
             self.tlb[at] = granted(lo, writable);
@@ -189,9 +204,5 @@ fn top_of(file: &[u8], i: usize) -> usize
 pub(crate) fn kernel_pages(file: &[u8]) -> usize
     ensures { result ≡ P.kernel_pages file.now }
 {
-    let mut top = 0;
-    for i in 0..elf::count(file) {
-        top = top.max(top_of(file, i));
-    }
-    top
+    (0..elf::count(file)).fold(0, |top, i| top.max(top_of(file, i)))
 }

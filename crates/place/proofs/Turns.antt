@@ -1,34 +1,48 @@
 -- The turns of the loops: what is left gives what the whole gives.
 use Prim.Native.Nat.{ℕ, zero, suc, ◌+◌, ◌-◌, ◌*◌, ◌<◌, ◌≤◌}
-use mathlib.Core.Bool.{Bool}
+use mathlib.Core.Bool.{Bool, true, false}
 use mathlib.Core.Path.{◌≡◌, refl, sym, ap, ◌∙◌}
 use mathlib.Core.List.{List, [], ◌∷◌, ◌++◌, append_assoc, append-nil}
 use native.Mathlib.Omega.{arith}
 use native.Mathlib.Numerals.{add-one}
-use borrow.Author.Tests.{eq-eqb, ne_eqb}
+use lib.Dec.{eqb}
+use Rattle.promise.specs.Pick.{pick}
 use lib.ListN.{length, get_or, set, take}
 use lib.Seq.{take_all, take-suc-set}
 use Rattle.elf.proofs.Turns.{one_more, no_more}
-use Rattle.std.specs.Prelude.{Option, max}
+use Rattle.std.specs.Prelude.{Option, Some, None, unwrap_or, max}
+use Rattle.std.specs.Option.{option_map}
 use Rattle.std.specs.List.{fold, range_with_len}
+use Rattle.std.specs.List as lists
 use Rattle.place.specs.declared.Owner.{Owner}
 use Rattle.place.specs.Plan.{Plan, find, add, add_run, add_segment, add_segments, add_program, add_programs, top_of, top_from}
 use Rattle.place.specs.Ram.{byte_at, bytes_from}
 use Rattle.place.specs.Made.{none, or, program_refusal, programs_refusal}
 
--- the slots from i on, of those used
-module _ (tlb : List ℕ) (hi used i : ℕ) where
-  pub find_here : i < used → get_or tlb (i * 4 + 1) 0 ≡ hi → find tlb hi (used - i) i ≡ i
+-- the slot that is found, as the first of a range
+module _ (tlb : List ℕ) (hi : ℕ) where
+  pub find_first : (left i : ℕ) → unwrap_or (lists.find (λ (k : ℕ). eqb (get_or tlb (k * 4 + 1) 0) hi) (range_with_len i left)) (i + left) ≡ find tlb hi left i
   unfolding find
-  find_here h e = one_more (λ (n : ℕ). find tlb hi n i) used i h ∙ simp (eq-eqb _ _ e)
+  find_first zero i = omega arith
+  find_first (suc left) i = go (find_first left (i + 1)) (eqb (get_or tlb (i * 4 + 1) 0) hi) refl
+    where
+      go : unwrap_or (lists.find (λ (k : ℕ). eqb (get_or tlb (k * 4 + 1) 0) hi) (range_with_len (i + 1) left)) (i + 1 + left) ≡ find tlb hi left (i + 1)
+          → (b : Bool) → eqb (get_or tlb (i * 4 + 1) 0) hi ≡ b → unwrap_or (lists.find (λ (k : ℕ). eqb (get_or tlb (k * 4 + 1) 0) hi) (range_with_len i (suc left))) (i + suc left) ≡ find tlb hi (suc left) i
+      go rest true e = simp e
+      go rest false e = let n : i + suc left ≡ i + 1 + left = omega arith in simp (e, n) rest
 
-  pub find_next : i < used → (get_or tlb (i * 4 + 1) 0 ≡ hi → ⊥) → find tlb hi (used - i) i ≡ find tlb hi (used - (i + 1)) (i + 1)
-  unfolding find
-  find_next h e = one_more (λ (n : ℕ). find tlb hi n i) used i h ∙ simp (ne_eqb _ _ e)
+  pub find_is : (left i past : ℕ) → past ≡ i + left → (r : Option ℕ) → option_map (λ (x : ℕ). x) r ≡ lists.find (λ (k : ℕ). eqb (get_or tlb (k * 4 + 1) 0) hi) (range_with_len i left) → unwrap_or r past ≡ find tlb hi left i
+  find_is left i past q None e = ap (unwrap_or None) q ∙ ap (λ (o : Option ℕ). unwrap_or o (i + left)) e ∙ find_first left i
+  find_is left i past q (Some x) e = ap (unwrap_or (Some x)) q ∙ ap (λ (o : Option ℕ). unwrap_or o (i + left)) e ∙ find_first left i
 
-  pub find_none : used ≤ i → find tlb hi (used - i) i ≡ i
+  pub find_most : (left i : ℕ) → find tlb hi left i ≤ i + left
   unfolding find
-  find_none h = no_more (λ (n : ℕ). find tlb hi n i) used i h
+  find_most zero i = omega arith
+  find_most (suc left) i = go (find_most left (i + 1)) (eqb (get_or tlb (i * 4 + 1) 0) hi)
+    where
+      go : find tlb hi left (i + 1) ≤ i + 1 + left → (b : Bool) → pick b i (find tlb hi left (i + 1)) ≤ i + suc left
+      go rest true = omega arith
+      go rest false = omega (arith, rest)
 
 module _ (p : Plan) where
   -- the pages from this one on, below `past`

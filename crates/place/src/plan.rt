@@ -72,12 +72,7 @@ fn find(tlb: &[u64; 192], hi: u64, used: usize) -> usize
     requires { used ≤ 16 }
     ensures { (result ≡ P.find tlb.now hi used 0) × (result ≤ used) }
 {
-    for i in 0..used {
-        if tlb[i * 4 + 1] == hi {
-            return i;
-        }
-    }
-    used
+    (0..used).find(|i| tlb[*i * 4 + 1] == hi).unwrap_or(used)
 }
 
 // The slots used, once slot i is.

@@ -62,11 +62,11 @@ pub record Like (cpu : Cpu) (cp0 : Cp0) : Type 0 where
   pub first : asid_of cp0.entryhi ≡ 1
   pub from : cpu.pc < 2 ^ 31
 
-unlike_none : (cpu : Cpu) (cp0 : Cp0) → unlike cpu cp0 ≡ None → Like cpu cp0
+unlike_none : (cpu : Cpu) (cp0 : Cp0) → unlike cpu cp0 ≡ Ok tt → Like cpu cp0
 unfolding unlike
 unlike_none cpu cp0 e = a (user cp0.status) (CU0 cp0.status) (eqb (asid_of cp0.entryhi) 1) (ltb cpu.pc (2 ^ 31)) refl refl refl refl
   where
-    some : {d : Difference} → Some d ≡ None → Like cpu cp0
+    some : {d : Difference} → ◌≡◌ {A = Result (Unit {0}) Difference} (Err d) (Ok tt) → Like cpu cp0
     some z = cc
 
     a : (t u v w : Bool) → user cp0.status ≡ t → CU0 cp0.status ≡ u → eqb (asid_of cp0.entryhi) 1 ≡ v → ltb cpu.pc (2 ^ 31) ≡ w → Like cpu cp0
@@ -114,8 +114,8 @@ read_back text n tlb ram some e =
     lost : {r : Refusal} → ◌≡◌ {A = Verdict} (Err r) none → Back text tlb ram
     lost z = cc
 
-    go : (t : Option image.Refusal) (u v : Bool) (w : Option Difference) → (image_of text zeros).refusal ≡ t → same (image_of text zeros).machine.tlb tlb ≡ u → same (ram_after text zeros) ram ≡ v → unlike (image_of text zeros).machine.cpu (image_of text zeros).machine.cp0 ≡ w → Back text tlb ram
-    go None true true None p q r s =
+    go : (t : Option image.Refusal) (u v : Bool) (w : Result (Unit {0}) Difference) → (image_of text zeros).refusal ≡ t → same (image_of text zeros).machine.tlb tlb ≡ u → same (ram_after text zeros) ram ≡ v → unlike (image_of text zeros).machine.cpu (image_of text zeros).machine.cp0 ≡ w → Back text tlb ram
+    go None true true (Ok _) p q r s =
         record {
           read = p;
           slots = same_equal _ _ q;
@@ -125,7 +125,7 @@ read_back text n tlb ram some e =
     go (Some x) u v w p q r s = lost {r = NoImage x.number} (rw p at e)
     go None false v w p q r s = lost {r = Undone Slots} (rw (p, programs, q) at e)
     go None true false w p q r s = lost {r = Undone Bytes} (rw (p, programs, q, r) at e)
-    go None true true (Some d) p q r s = lost {r = Undone d} (rw (p, programs, q, r, s) at e)
+    go None true true (Err d) p q r s = lost {r = Undone d} (rw (p, programs, q, r, s) at e)
 
 module _ (file : ℕ → List ℕ) (n : ℕ) (settings : List ℕ) (some : 1 ≤ n) (long : ℕ) (done : made_of file n settings ≡ Ok long) where
   early_text : (early file n ≡ none) × (text_made (text_of file n settings) n (plan_of file n).tlb (ram_of file n) ≡ Ok long)

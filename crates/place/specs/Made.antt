@@ -147,15 +147,15 @@ abbrev pub same : List ℕ → List ℕ → Bool
 same = pointwise nat_eq
 
 -- what a machine has otherwise than User mode with CU0 clear, ASID 1 and a PC below 80000000 (L27)
-unfoldable pub unlike : Cpu → Cp0 → Option Difference
+unfoldable pub unlike : Cpu → Cp0 → Result (Unit {0}) Difference
 unlike cpu cp0 =
     pick (user cp0.status)
-    (pick (CU0 cp0.status) (Some Cu0) (pick (eqb (asid_of cp0.entryhi) 1) (pick (ltb cpu.pc (2 ^ 31)) None (Some Start)) (Some Asid)))
-    (Some Mode)
+    (pick (CU0 cp0.status) (Err Cu0) (pick (eqb (asid_of cp0.entryhi) 1) (pick (ltb cpu.pc (2 ^ 31)) (Ok tt) (Err Start)) (Err Asid)))
+    (Err Mode)
 
 -- what a machine and the RAM that it holds have otherwise than this TLB and RAM; then what it is unlike (L27)
-unfoldable pub undone : Machine → List ℕ → List ℕ → List ℕ → Option Difference
-undone m held tlb ram = pick (same m.tlb tlb) (pick (same held ram) (unlike m.cpu m.cp0) (Some Bytes)) (Some Slots)
+unfoldable pub undone : Machine → List ℕ → List ℕ → List ℕ → Result (Unit {0}) Difference
+undone m held tlb ram = pick (same m.tlb tlb) (pick (same held ram) (unlike m.cpu m.cp0) (Err Bytes)) (Err Slots)
 
 -- RAM that is zeroed
 abbrev pub zeros : List ℕ
@@ -167,9 +167,9 @@ unread None = none
 unread (Some r) = Err (NoImage r.number)
 
 -- SETTINGS undid it, or not
-abbrev pub undone_refusal : Option Difference → Verdict
-undone_refusal None = none
-undone_refusal (Some d) = Err (Undone d)
+abbrev pub undone_refusal : Result (Unit {0}) Difference → Verdict
+undone_refusal (Ok _) = none
+undone_refusal (Err d) = Err (Undone d)
 
 -- what is refused of a text by what the reader makes of it (L26, L27)
 unfoldable pub read_refusal : List ℕ → ℕ → List ℕ → List ℕ → Verdict

@@ -41,10 +41,7 @@ fn late(text: &[u8], n: u8, tlb: &[u64; 192], ram: &[u8]) -> Result<(), Refusal>
     if n == 0 {
         return Ok(());
     }
-    match undone(&image.machine, &held, tlb, ram) {
-        Some(d) => Err(Refusal::Undone(d)),
-        None => Ok(()),
-    }
+    undone(&image.machine, &held, tlb, ram).map_err(|d| Refusal::Undone(d))
 }
 
 // The length of the text of a RAM and a TLB, if it is an image of them.

@@ -140,34 +140,39 @@ pub(crate) fn files_refusal(files: Files, n: u8) -> Result<(), Refusal>
 
 // What a machine has otherwise than User mode with CU0 clear, ASID 1 and a User PC.
 #[tactic(auto, unfolding(crate::specs::Made::unlike))]
-fn unlike(cpu: Cpu, cp0: Cp0) -> Option<Difference>
+fn unlike(cpu: Cpu, cp0: Cp0) -> Result<(), Difference>
     ensures { result ≡ M.unlike cpu cp0 }
 {
     if !cp0::user(cp0.status) {
-        return Some(Difference::Mode);
+        return Err(Difference::Mode);
     }
     if (cp0.status >> 28) % 2 == 1 {
-        return Some(Difference::Cu0);
+        return Err(Difference::Cu0);
     }
     if cp0.entryhi % 256 != 1 {
-        return Some(Difference::Asid);
+        return Err(Difference::Asid);
     }
-    if cpu.pc < 0x80000000 {
-        return None;
+    if 0x80000000 <= cpu.pc {
+        return Err(Difference::Start);
     }
-    Some(Difference::Start)
+    Ok(())
 }
 
 // What a machine and its RAM have otherwise than was placed.
 #[tactic(auto, unfolding(crate::specs::Made::undone))]
-pub(crate) fn undone(m: &Machine, held: &[u8], tlb: &[u64; 192], ram: &[u8]) -> Option<Difference>
+pub(crate) fn undone(
+    m: &Machine,
+    held: &[u8],
+    tlb: &[u64; 192],
+    ram: &[u8],
+) -> Result<(), Difference>
     ensures { result ≡ M.undone m.now held.now tlb.now ram.now }
 {
     if m.tlb != *tlb {
-        return Some(Difference::Slots);
+        return Err(Difference::Slots);
     }
     if held != ram {
-        return Some(Difference::Bytes);
+        return Err(Difference::Bytes);
     }
     unlike(m.cpu, m.cp0)
 }

@@ -1,5 +1,5 @@
 -- Laws of the entry, of what the reader makes of a text, and of the answer.
-use Prim.Native.Nat.{ℕ, ◌+◌, ◌<◌, ◌≤◌}
+use Prim.Native.Nat.{ℕ, ◌+◌, ◌^◌, ◌<◌, ◌≤◌}
 use mathlib.Core.Bool.{Bool, true, false}
 use mathlib.Core.Bool as bool
 use mathlib.Core.Path.{◌≡◌, refl, sym, ap, ◌∙◌}
@@ -10,11 +10,18 @@ use borrow.Author.Tests.{le-leb, lt-leb}
 use lib.Dec.{eqb}
 use lib.ListN.{length, take, drop}
 use lib.Seq.{sets, sets-eq, take-append_seam}
+use Rattle.word.specs.Extend as Extend
+use Rattle.word.specs.Word as Word
 use Rattle.answer.specs.Wrote.{Wrote}
 use Rattle.answer.specs.Placed.{placed_text}
 use Rattle.promise.specs.Pick.{not}
 use Rattle.place.specs.declared.Refusal.TheVariants.{TooLong}
-use Rattle.place.specs.Made.{Verdict, or, read_refusal, text_made, written, text_answer, Answered}
+use Rattle.place.specs.Made.{Verdict, or, extended, read_refusal, text_made, written, text_answer, Answered}
+
+-- a word, extended as a register's low word is
+pub extended_is : (v : ℕ) → v < 2 ^ 32 → Word.extend v ≡ extended v
+unfolding extended Extend.extend
+extended_is v h = grind arith
 
 -- what is read back is the text
 pub reads_back : (out text : List ℕ) → length text ≤ length out → take (length text) (sets out 0 text) ≡ text

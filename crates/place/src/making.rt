@@ -11,12 +11,12 @@ use crate::ram::fill;
 use crate::refusals::{files_refusal, undone};
 
 // A word, sign-extended.
-#[tactic(auto, unfolding(crate::specs::Made::extended))]
+#[tactic(auto, using(crate::proofs::Texts::extended_is))]
 fn extended(v: usize) -> u64
     requires { v < 2 ^ 32 }
     ensures { result ≡ M.extended v }
 {
-    i64::from((v as u32).cast_signed()).cast_unsigned()
+    word::extend(v as u64)
 }
 
 // The entry point of the first program, sign-extended.

@@ -1,16 +1,14 @@
 -- Laws of the tests of a header.
 use Prim.Native.Nat.{ℕ, ◌+◌, ◌<◌, ◌≤◌}
 use mathlib.Core.Bool.{Bool, true, false}
-use mathlib.Core.Path.{◌≡◌, refl, sym}
+use mathlib.Core.Path.{◌≡◌, refl}
 use mathlib.Core.List.{List}
 use native.Mathlib.Omega.{arith}
-use borrow.Author.Tests.{ne_eqb, ltb-true, leb-true, le-leb, lt-leb}
-use lib.Dec.{eqb, leb, ltb}
-use lib.ListN.{length, get_or-eq_default}
-use Rattle.promise.specs.Pick.{either, both}
+use borrow.Author.Tests.{ltb-true, leb-true}
+use lib.Dec.{leb, ltb}
+use Rattle.promise.specs.Pick.{both}
 use Rattle.elf.specs.declared.Header.{Header}
 use Rattle.elf.specs.declared.Space.{Space}
-use Rattle.elf.specs.Bytes.{byte}
 use Rattle.elf.specs.Header.{loads}
 use Rattle.elf.specs.Home.{home, within, covers}
 

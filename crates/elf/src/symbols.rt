@@ -41,12 +41,9 @@ fn same_from(file: &[u8], at: usize, name: &[u8]) -> bool
     requires { at ≤ 2 ^ 40 }
     ensures { result ≡ S.same_from file.now at name.now }
 {
-    for (i, x) in name.iter().enumerate() {
-        if byte(file, at + i) != *x {
-            return false;
-        }
-    }
-    true
+    name.iter()
+        .enumerate()
+        .all(|(i, x)| byte(file, at + i) == *x)
 }
 
 // Whether the name that begins at a number is this one.
@@ -83,13 +80,9 @@ fn is_symbol(file: &[u8], names: Section, name: &[u8], at: usize) -> bool
 fn symbol_from(file: &[u8], names: Section, name: &[u8], many: u32, from: u32) -> Option<usize>
     ensures { result ≡ S.symbol_from file.now names name.now many from }
 {
-    for j in 0..many {
-        let at = from as usize + 16 * j as usize;
-        if is_symbol(file, names, name, at) {
-            return Some(word(file, at + 4) as usize);
-        }
-    }
-    None
+    let at = from as usize;
+    let j = (0..many).find(|j| is_symbol(file, names, name, at + 16 * *j as usize))?;
+    Some(word(file, at + 16 * j as usize + 4) as usize)
 }
 
 // Of a section of symbols and its section of names.
@@ -121,13 +114,8 @@ fn symbol_by(file: &[u8], symbols: Section, name: &[u8]) -> Option<usize>
 fn symbol_of(file: &[u8], name: &[u8]) -> Option<usize>
     ensures { result ≡ S.symbol_of file.now name.now (B.half file.now 48) 0 }
 {
-    for i in 0..half(file, 48) {
-        let s = section(file, u32::from(i));
-        if s.kind == 2 {
-            return symbol_by(file, s, name);
-        }
-    }
-    None
+    let i = (0..half(file, 48)).find(|i| section(file, u32::from(*i)).kind == 2)?;
+    symbol_by(file, section(file, u32::from(i)), name)
 }
 
 // The value of a symbol; a name has 1 to 4,096 bytes.

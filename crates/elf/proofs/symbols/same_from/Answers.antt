@@ -1,17 +1,22 @@
 -- Byte by byte.
-use mathlib.Core.Path.{sym, ◌∙◌}
-use borrow.Author.Tests.{eq-eqb, ne_eqb}
-use Rattle.elf.proofs.Turns.{same_start, same_turn, same_done}
+use Prim.Native.Nat.{ℕ, ◌+◌}
+use native.Mathlib.Omega.{arith}
+use mathlib.Core.Path.{◌≡◌, ap, ◌∙◌}
+use lib.Dec.{eqb}
+use Rattle.std.proofs.Common.{rules, tests}
+use Rattle.std.proofs.lemmas.Iterator.{YieldsList-from_slice}
+use Rattle.std.proofs.lemmas.Iterator.Consumers.{YieldsList-from_enumerate}
+use Rattle.std.proofs.lemmas.Iterator.Search.{all_from_yields_List}
+use Rattle.elf.specs.Bytes.{byte}
+use Rattle.elf.specs.Symbol.{same_from}
+use Rattle.elf.proofs.Turns.{same_is}
 use Rattle.elf.proofs.symbols.same_from.Goals as goal
 
-pub loop-i-init : goal.loop-i-init
-loop-i-init c = same_start _ _ _ 0
-
-pub returns-then-byte-x : goal.returns-then-byte-x
-returns-then-byte-x c = sym (c.loop-i.invariant ∙ same_turn _ _ _ _ c.loop-i-test.true ∙ simp (sym c.byte.ensures, ne_eqb _ _ c.if-byte-x.true))
-
-pub loop-i-preserved : goal.loop-i-preserved
-loop-i-preserved c = c.loop-i.invariant ∙ same_turn _ _ _ _ c.loop-i-test.true ∙ simp (sym c.byte.ensures, eq-eqb _ _ c.if-byte-x.false)
-
 pub returns : goal.returns
-returns c = sym (c.loop-i.invariant ∙ same_done _ _ _ _ c.loop-i-test.false)
+returns c =
+    let e : c.args.at + 0 ≡ c.args.at = omega arith in
+    all_from_yields_List (λ (p : ℕ × ℕ). eqb (byte c.args.file.now (c.args.at + p.0)) p.1) _ _ _ c.all.ensures.ran
+    (YieldsList-from_enumerate (YieldsList-from_slice c.args.name.now (search (rules, tests))) c.enumerate.ensures.count)
+    (λ x b q k. search (rules, tests))
+    ∙ same_is c.args.file.now c.args.at c.args.name.now 0
+    ∙ ap (λ (n : ℕ). same_from c.args.file.now n c.args.name.now) e

@@ -1,15 +1,14 @@
--- The first line of a text, as it is taken off.
-use Rattle.std.specs.Prelude.{ℕ, ◌<◌, ◌≡◌, List, Option, Some, None, length}
-use Rattle.std.specs.Borrow.{Bor}
+-- The lines of a text, as they are taken off one by one.
+use Rattle.std.specs.Prelude.{ℕ, ◌<◌, ◌≡◌, Bool, true, false, List, [], Option, Some, None, length}
 use Rattle.frame.specs.Line.{done, unended, line, lines_of}
 use Rattle.image.specs.declared.lines.Line.{Line}
 
--- a text begins with this line, and this comes after it; nothing does where no LF ends the line (I1)
-abbrev pub Begins : List ℕ → List ℕ → Option (Bor (List ℕ)) → Type 0
-Begins text l None = (lines_of text ≡ unended l) × (0 < length text)
-Begins text l (Some after) = (lines_of text ≡ line l (lines_of after.now)) × (length after.now < length text)
+-- a text begins with these characters, and this comes after their LF; nothing does where no LF ends them (I1)
+abbrev pub Begins : List ℕ → List ℕ → Bool → List ℕ → Type 0
+Begins text chars true after = lines_of text ≡ line chars (lines_of after)
+Begins text chars false after = (lines_of text ≡ unended chars) × (after ≡ [])
 
--- the first line of a text; none where nothing of the text is left
-abbrev pub IsFirst : List ℕ → Option Line → Type 0
-IsFirst text None = lines_of text ≡ done
-IsFirst text (Some l) = Begins text l.chars.now l.after
+-- what is taken off is the first line, and this is left; none is where nothing of the text is left
+abbrev pub Takes : List ℕ → Option Line → List ℕ → Type 0
+Takes text None after = lines_of text ≡ done
+Takes text (Some l) after = Begins text l.chars.now l.ended after × (length after < length text)

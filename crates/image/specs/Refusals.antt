@@ -7,11 +7,21 @@ use Rattle.frame.specs.Frame.{frame_of}
 use Rattle.frame.specs.declared.Frame.{Frame}
 use Rattle.frame.specs.declared.Frame.TheVariants.{Register, Memory, Budget, Cp0, Slot}
 use Rattle.image.specs.declared.Refusal.{Refusal}
+use Rattle.image.specs.declared.refusals.Why.{Why}
+use Rattle.image.specs.declared.refusals.Why.TheVariants.{RamLength, TooLong, NoFrame, BadValue, BudgetNotLast}
 use Rattle.image.specs.Allowed.{allowed}
 
 -- a refusal: its number, and the line that it names
 abbrev pub refusal : ℕ → ℕ → Refusal
 refusal number at = record { number = number; line = at }
+
+-- why an image is refused, by number: RAM of another length, a text that is too long, a line that is no frame, a value that is not allowed, a budget that is missing or not last (N6 to N9, N15)
+abbrev pub number : Why → ℕ
+number RamLength = 1
+number TooLong = 5
+number NoFrame = 6
+number BadValue = 7
+number BudgetNotLast = 8
 
 -- a line is the budget's frame
 abbrev pub is_budget : Option Frame → Bool
@@ -27,13 +37,16 @@ abbrev pub refusal_of : Bool → Option Frame → Option ℕ
 refusal_of after None = Some 6
 refusal_of after (Some f) = pick (allowed f) (pick after (Some 8) None) (Some 7)
 
+-- line n's refusal, where it has one (N16)
+abbrev pub refused_at : ℕ → Bool → Option Frame → Option Refusal
+refused_at n after f = option_map (λ (number : ℕ). refusal number n) (refusal_of after f)
+
 -- of lines counted from n, after the budget or before it: the first that is refused; a line that no LF ends is 6; with no budget 8 names one past the last (N16, I1, I10)
 unfoldable pub first_of : Lines → ℕ → Bool → Option Refusal
 first_of done n after = pick after None (Some (refusal 8 n))
 first_of (unended l) n after = Some (refusal 6 n)
 first_of (line l ls) n after =
-    option_or (option_map (λ (number : ℕ). refusal number n) (refusal_of after (frame_of l)))
-    (first_of ls (n + 1) (either after (is_budget (frame_of l))))
+    option_or (refused_at n after (frame_of l)) (first_of ls (n + 1) (either after (is_budget (frame_of l))))
 
 -- the bytes of RAM that an image needs, and the most that its text may have (N6, N15)
 abbrev pub size : ℕ

@@ -6,7 +6,7 @@ ghost use Rattle.image.specs.Image as I;
 
 use acts::act;
 use card::Machine;
-use lines::first_line;
+use lines::Lines;
 
 mod acts;
 mod allowed;
@@ -21,6 +21,7 @@ pub struct Refusal {
 }
 
 // What is read besides RAM: the machine, the budget, and the refusal, where there is one.
+// Kept: no `Result`, since a refused image is promised to have the fresh machine too.
 #[derive(Clone, Copy)]
 pub struct Image {
     pub machine: Machine,
@@ -35,12 +36,10 @@ fn load(text: &[u8], ram: &mut [u8]) -> Image
     ram.fill(0);
     let mut machine = card::fresh();
     let mut budget = 0;
-    let mut rest = text;
-    while let Some(line) = first_line(rest) {
+    for line in Lines(text) {
         if let Some(f) = frame::frame_of(line.chars) {
             act(f, &mut machine, ram, &mut budget);
         }
-        rest = line.after.unwrap_or(&[]);
     }
     Image {
         machine,

@@ -1,11 +1,12 @@
 // Which texts are refused, by which number and at which line.
 ghost use Rattle.std.specs.Prelude.{◌≡◌, false};
+ghost use Rattle.std.specs.Result.{result_err};
 ghost use Rattle.frame.specs.Line.{lines_of};
 ghost use Rattle.image.specs.Refusals as R;
 
 use crate::Refusal;
 use crate::allowed::allowed;
-use crate::lines::first_line;
+use crate::lines::Lines;
 use frame::Frame;
 
 // The bytes of RAM that an image needs, and the most that its text may have.
@@ -18,41 +19,64 @@ fn is_budget(f: Option<Frame>) -> bool
     matches!(f, Some(Frame::Budget(_)))
 }
 
-// The refusal of one line, after the budget or before it.
-fn refusal_of(after: bool, f: Option<Frame>) -> Option<u8>
-    ensures { result ≡ R.refusal_of after f }
-{
-    match f {
-        None => Some(6),
-        Some(f) if !allowed(f) => Some(7),
-        Some(_) if after => Some(8),
-        Some(_) => None,
+// Why an image is refused.
+#[derive(Clone, Copy)]
+enum Why {
+    RamLength,
+    TooLong,
+    NoFrame,
+    BadValue,
+    BudgetNotLast,
+}
+
+impl Why {
+    // The refusal by its number, at a line.
+    fn at(self, line: u64) -> Refusal
+        ensures { result ≡ R.refusal (R.number self) line }
+    {
+        let number = match self {
+            Why::RamLength => 1,
+            Why::TooLong => 5,
+            Why::NoFrame => 6,
+            Why::BadValue => 7,
+            Why::BudgetNotLast => 8,
+        };
+        Refusal { number, line }
     }
 }
 
-// The first line that is refused.
-fn first_of(text: &[u8]) -> Option<Refusal>
-    ensures { result ≡ R.first_of (lines_of text.now) 1 false }
+// Whether line n passes, after the budget or before it.
+fn pass(n: u64, after: bool, f: Option<Frame>) -> Result<(), Refusal>
+    ensures { result_err result ≡ R.refused_at n after f }
 {
-    let mut rest = text;
+    match f {
+        None => Err(Why::NoFrame.at(n)),
+        Some(f) if !allowed(f) => Err(Why::BadValue.at(n)),
+        Some(_) if after => Err(Why::BudgetNotLast.at(n)),
+        Some(_) => Ok(()),
+    }
+}
+
+// Whether all lines pass; else the first that is refused.
+fn all_pass(text: &[u8]) -> Result<(), Refusal>
+    ensures { result_err result ≡ R.first_of (lines_of text.now) 1 false }
+{
+    // Kept: counted by hand, since the line past the last is named too.
     let mut n: u64 = 1;
     let mut after = false;
-    while let Some(line) = first_line(rest) {
-        let Some(next) = line.after else {
-            return Some(Refusal { number: 6, line: n });
-        };
-        let f = frame::frame_of(line.chars);
-        if let Some(number) = refusal_of(after, f) {
-            return Some(Refusal { number, line: n });
+    for line in Lines(text) {
+        if !line.ended {
+            return Err(Why::NoFrame.at(n));
         }
+        let f = frame::frame_of(line.chars);
+        pass(n, after, f)?;
         after = is_budget(f);
-        rest = next;
         n += 1;
     }
     if after {
-        None
+        Ok(())
     } else {
-        Some(Refusal { number: 8, line: n })
+        Err(Why::BudgetNotLast.at(n))
     }
 }
 
@@ -62,10 +86,10 @@ pub fn image_refusal(text: &[u8], ram: &[u8]) -> Option<Refusal>
     ensures { result ≡ R.image_refusal text.now ram.now }
 {
     if ram.len() != SIZE {
-        return Some(Refusal { number: 1, line: 0 });
+        return Some(Why::RamLength.at(0));
     }
     if SIZE < text.len() {
-        return Some(Refusal { number: 5, line: 0 });
+        return Some(Why::TooLong.at(0));
     }
-    first_of(text)
+    all_pass(text).err()
 }

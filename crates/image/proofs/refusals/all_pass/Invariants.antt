@@ -5,13 +5,10 @@ use mathlib.Core.Bool.{false}
 use lib.ListN.{length}
 use Rattle.frame.specs.Line.{lines_of}
 use Rattle.image.specs.Refusals.{first_of}
-use Rattle.image.proofs.refusals.first_of.Given as goal
+use Rattle.image.proofs.refusals.all_pass.Given as goal
 
 abbrev pub invariant-loop-line : goal.invariant-loop-line
 invariant-loop-line l = record {
-  counted : l.n + length l.rest ≤ 1 + length l.fn.text;
-  is : first_of (lines_of l.fn.text) 1 false ≡ first_of (lines_of l.rest) l.n l.after;
+  counted : l.n + length l.line-iterator.0.now ≤ 1 + length l.fn.text;
+  is : first_of (lines_of l.fn.text) 1 false ≡ first_of (lines_of l.line-iterator.0.now) l.n l.after;
 }
-
-abbrev pub decreases-loop-line : goal.decreases-loop-line
-decreases-loop-line l = length l.rest

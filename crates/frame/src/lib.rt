@@ -77,6 +77,7 @@ fn all_hex(line: &[u8]) -> bool
 }
 
 // The number that `many` digits from a place on are.
+// Kept: no Option, since the rulebook counts a character that is no digit as 0, and `frame_of` has none here.
 fn number(line: &[u8], at: usize, many: usize) -> u64
     requires { (many ≤ 16) × (at + many ≤ length line.now) }
     ensures { result ≡ D.number line.now at many }

@@ -37,15 +37,13 @@ const UNALIGNED: Tables = Tables {
 
 // A table's words go to memory, one after the other.
 fn poke(bytes: &mut [u8], from: u64, words: &[u64]) {
-    let mut to = from;
-    for word in words {
+    for (i, word) in words.iter().enumerate() {
         let s = Store {
-            to: PAddr(to),
+            to: PAddr(from.wrapping_add(4 * i as u64)),
             size: 4,
             value: *word,
         };
         let _ = memory::put_bytes(bytes, Some(s));
-        to = to.wrapping_add(4);
     }
 }
 
@@ -95,11 +93,8 @@ fn answer<R: Print + Eprint>(rt: &R, budget: u64, program: Program) -> End {
 
 // Reads the arguments and answers.
 pub fn benchcard<R: Env + Print + Eprint>(rt: &R) -> End {
-    let Some(budget) = arguments::steps_given(rt) else {
-        return arguments::misused(rt);
-    };
-    let Some(program) = arguments::program_given(rt) else {
-        return arguments::misused(rt);
-    };
-    answer(rt, budget, program)
+    match (arguments::steps_given(rt), arguments::program_given(rt)) {
+        (Some(budget), Some(program)) => answer(rt, budget, program),
+        _ => arguments::misused(rt),
+    }
 }

@@ -44,7 +44,7 @@ fn with_settings<R: Print + Eprint, I: Read>(
     ends: &[usize; 8],
     programs: u8,
 ) -> Result<End, Failure> {
-    let mut text = [0u8; 65537];
+    let mut text = [0u8; SETTINGS + 1];
     let n = program::read_whole(input, &mut text).map_err(|_| Failure::Settings)?;
     if SETTINGS < n {
         return Err(Failure::LongSettings);
@@ -99,7 +99,7 @@ fn symbol_of<R: Env + Files + Print + Eprint>(rt: &R, room: &mut [u8]) -> Result
 fn answer<R: Env + Files + Print + Eprint, I: Read>(
     rt: &R,
     input: &mut I,
-    room: &mut [u8; 4194305],
+    room: &mut [u8; FILES + 1],
 ) -> Result<End, Failure> {
     let (mode, programs) = arguments::mode_given(rt).ok_or(Failure::Arguments)?;
     match mode {
@@ -110,7 +110,7 @@ fn answer<R: Env + Files + Print + Eprint, I: Read>(
 
 // Answers, or says why not.
 pub fn cardimage<R: Env + Files + Print + Eprint, I: Read>(rt: &R, input: &mut I) -> End {
-    let mut room = [0u8; 4194305];
+    let mut room = [0u8; FILES + 1];
     match answer(rt, input, &mut room) {
         Ok(end) => end,
         Err(failure) => failure.say(rt),

@@ -48,7 +48,7 @@ fn print_answer<R: Print>(
 // Answers one image: its header, and its text.
 fn print_image<R: Files + Print>(rt: &R, base: &[u8], image: &[u8]) -> Result<(), Failure> {
     let header = header::read(frame::next_line(image)).ok_or(Failure::Header)?;
-    let mut room = [0u8; 4097];
+    let mut room = [0u8; rom::MOST + 1];
     let n = rom::read_rom(rt, header.rom, &mut room).map_err(|_| Failure::Rom)?;
     if rom::MOST < n {
         return Err(Failure::Rom);

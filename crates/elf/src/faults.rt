@@ -4,9 +4,15 @@ ghost use Rattle.elf.specs.Faults as F;
 ghost use Rattle.elf.specs.Header as Headers;
 
 use crate::bytes::{byte, half, word};
-use crate::headers::{entry, header, loads, many, table};
+use crate::headers::{HEADER_SIZE, entry, header, loads, many, table};
 use crate::homes::{covers, home, outside};
 use crate::{Fault, Header, Space};
+
+// The bytes of a file's header.
+const FILE_HEADER_SIZE: usize = 52;
+
+// The program headers of a file, at most.
+const MOST_HEADERS: usize = 32;
 
 impl Fault {
     // Its number.
@@ -65,7 +71,7 @@ pub fn head_fault(file: &[u8]) -> Result<(), Fault>
     if word(file, 0) != 0x7f454c46 {
         return Err(Fault::NotElf);
     }
-    if file.len() < 52 {
+    if file.len() < FILE_HEADER_SIZE {
         return Err(Fault::Short(file.len()));
     }
     let class = byte(file, 4);
@@ -92,16 +98,16 @@ pub fn head_fault(file: &[u8]) -> Result<(), Fault>
 fn table_fault(file: &[u8]) -> Result<(), Fault>
     ensures { result ≡ F.table_fault file.now }
 {
-    let size = half(file, 42);
-    if size != 32 {
-        return Err(Fault::HeaderSize(usize::from(size)));
+    let size = usize::from(half(file, 42));
+    if size != HEADER_SIZE {
+        return Err(Fault::HeaderSize(size));
     }
     let many = usize::from(many(file));
-    if 32 < many {
+    if MOST_HEADERS < many {
         return Err(Fault::TooMany(many));
     }
     let at = table(file) as usize;
-    if file.len() < at + 32 * many {
+    if file.len() < at + HEADER_SIZE * many {
         return Err(Fault::NoTable(at));
     }
     Ok(())

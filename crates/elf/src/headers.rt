@@ -5,6 +5,21 @@ ghost use Rattle.elf.specs.Header as Headers;
 use crate::Header;
 use crate::bytes::{half, word};
 
+// The type of a segment.
+const LOAD: u32 = 1;
+
+// The types of notes: the plain one, and three of MIPS.
+const NOTE: u32 = 4;
+
+const MIPS_REGINFO: u32 = 0x70000000;
+
+const MIPS_OPTIONS: u32 = 0x70000002;
+
+const MIPS_ABIFLAGS: u32 = 0x70000003;
+
+// The bytes of a program header.
+pub(crate) const HEADER_SIZE: usize = 32;
+
 // Where the program headers are.
 #[tactic(auto, unfolding(crate::specs::Header::table))]
 pub(crate) fn table(file: &[u8]) -> u32
@@ -58,7 +73,7 @@ fn header_at(file: &[u8], at: usize) -> Header
 pub(crate) fn header(file: &[u8], i: u16) -> Header
     ensures { result ≡ Headers.header file.now i }
 {
-    header_at(file, table(file) as usize + 32 * usize::from(i))
+    header_at(file, table(file) as usize + HEADER_SIZE * usize::from(i))
 }
 
 // Whether a header of this type is a note.
@@ -66,7 +81,7 @@ pub(crate) fn header(file: &[u8], i: u16) -> Header
 fn note(kind: u32) -> bool
     ensures { result ≡ Headers.note kind }
 {
-    matches!(kind, 4 | 0x70000000 | 0x70000002 | 0x70000003)
+    matches!(kind, NOTE | MIPS_REGINFO | MIPS_OPTIONS | MIPS_ABIFLAGS)
 }
 
 // Where the addresses of a header end.
@@ -108,5 +123,5 @@ fn only_notes(file: &[u8], h: Header) -> bool
 pub(crate) fn loads(file: &[u8], h: Header) -> bool
     ensures { result ≡ Headers.loads file.now h }
 {
-    h.kind == 1 && !only_notes(file, h)
+    h.kind == LOAD && !only_notes(file, h)
 }

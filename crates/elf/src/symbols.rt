@@ -6,12 +6,21 @@ ghost use Rattle.elf.specs.Symbol as S;
 use crate::Section;
 use crate::bytes::{byte, half, word};
 
+// The bytes of a section header, and of a symbol.
+const SECTION_SIZE: usize = 40;
+
+const SYMBOL_SIZE: usize = 16;
+
+// The type of a section of symbols.
+const SYMBOLS: u32 = 2;
+
 // Whether the section headers are of 40 bytes and all in the file.
 #[tactic(auto, unfolding(crate::specs::Symbol::sectioned))]
 fn sectioned(file: &[u8]) -> bool
     ensures { result ≡ S.sectioned file.now }
 {
-    half(file, 46) == 40 && word(file, 32) as usize + 40 * usize::from(half(file, 48)) <= file.len()
+    usize::from(half(file, 46)) == SECTION_SIZE
+        && word(file, 32) as usize + SECTION_SIZE * usize::from(half(file, 48)) <= file.len()
 }
 
 // Section i.
@@ -19,7 +28,7 @@ fn sectioned(file: &[u8]) -> bool
 fn section(file: &[u8], i: u32) -> Section
     ensures { result ≡ S.section file.now i }
 {
-    let at = word(file, 32) as usize + 40 * i as usize;
+    let at = word(file, 32) as usize + SECTION_SIZE * i as usize;
     Section {
         kind: word(file, at + 4),
         offset: word(file, at + 16),
@@ -81,8 +90,8 @@ fn symbol_from(file: &[u8], names: Section, name: &[u8], many: u32, from: u32) -
     ensures { result ≡ S.symbol_from file.now names name.now many from }
 {
     let at = from as usize;
-    let j = (0..many).find(|j| is_symbol(file, names, name, at + 16 * *j as usize))?;
-    Some(word(file, at + 16 * j as usize + 4) as usize)
+    let j = (0..many).find(|j| is_symbol(file, names, name, at + SYMBOL_SIZE * *j as usize))?;
+    Some(word(file, at + SYMBOL_SIZE * j as usize + 4) as usize)
 }
 
 // Of a section of symbols and its section of names.
@@ -91,7 +100,8 @@ fn symbol_in(file: &[u8], symbols: Section, names: Section, name: &[u8]) -> Opti
     ensures { result ≡ S.symbol_in file.now symbols names name.now }
 {
     if in_file(file, symbols) && in_file(file, names) {
-        symbol_from(file, names, name, symbols.size / 16, symbols.offset)
+        let many = symbols.size / SYMBOL_SIZE as u32;
+        symbol_from(file, names, name, many, symbols.offset)
     } else {
         None
     }
@@ -114,7 +124,7 @@ fn symbol_by(file: &[u8], symbols: Section, name: &[u8]) -> Option<usize>
 fn symbol_of(file: &[u8], name: &[u8]) -> Option<usize>
     ensures { result ≡ S.symbol_of file.now name.now (B.half file.now 48) 0 }
 {
-    let i = (0..half(file, 48)).find(|i| section(file, u32::from(*i)).kind == 2)?;
+    let i = (0..half(file, 48)).find(|i| section(file, u32::from(*i)).kind == SYMBOLS)?;
     symbol_by(file, section(file, u32::from(i)), name)
 }
 

@@ -14,6 +14,7 @@ mod lines;
 mod refusals;
 
 // A refusal: the number of document 01's table, and the line that it names.
+// Kept: a number, since it is the table's own, which the programs print and the theorems name.
 #[derive(Clone, Copy)]
 pub struct Refusal {
     pub number: u8,

@@ -30,7 +30,7 @@ fn number_of(stop: Option<Stop>) -> u8
 }
 
 // One step: what it comes to, then the writes.
-// Kept: the parts of a machine are lent one by one, so that no step copies it.
+// Kept: the parts of a machine one by one, since the clause and all that stands on it speak of them so.
 #[tactic(auto, unfolding(crate::specs::Step::step_of, crate::specs::Step::apply))]
 pub fn core(
     cpu: Cpu,

@@ -18,6 +18,7 @@ pub use runs::{run, step};
 pub use start::fresh;
 
 // The whole machine but for its memory; `tlb` holds 48 slots of four numbers.
+// Kept: numbers and no array of slots, since the theorems about accepted machines say that there are 192.
 #[derive(Clone, Copy)]
 pub struct Machine {
     pub cpu: Cpu,

@@ -22,6 +22,7 @@ pub fn low(x: u64) -> u32
 }
 
 // Index's bits 31 and 5..0.
+// Kept: here and below a rule for each register, as the manual draws it.
 pub fn kept_index(x: u32) -> u32
     ensures { result ≡ R.kept_index x }
 {

@@ -5,7 +5,7 @@ ghost use Rattle.cp0.specs.Tick as T;
 use crate::Cp0;
 
 // Cause with IP7 set where Count equals Compare.
-// Kept: numbers and not the registers, here and below, so that no call copies them.
+// Kept: here and below the numbers that the rule speaks of, and not all registers.
 #[tactic(auto, unfolding(crate::specs::Tick::timed))]
 fn timed(count: u32, compare: u32, cause: u32) -> u32
     ensures { result ≡ T.timed count compare cause }

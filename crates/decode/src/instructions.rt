@@ -9,6 +9,7 @@ use super::{
 };
 
 // A load.
+// Kept: here and below makers of four groups, so that the match stays short.
 fn load(op: LoadOp, w: u32) -> Instr
     ensures { result ≡ Instr.Load op (F.rs w) (F.rt w) (F.immediate w) }
 {

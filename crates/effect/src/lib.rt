@@ -11,6 +11,7 @@ use cp0::Cp0;
 pub use step::effect_of;
 
 // What a User program may change besides the registers: PC, the pending slot and where it leads, HI, LO and the link bit.
+// Kept: no Option of a target, since a target without a slot is a machine that is refused, so the type has to hold it.
 #[derive(Clone, Copy)]
 pub struct Cpu {
     pub pc: u64,

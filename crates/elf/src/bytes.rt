@@ -11,6 +11,7 @@ pub(crate) fn byte(file: &[u8], at: usize) -> u8
 }
 
 // Two bytes.
+// Kept: here and below two functions, since no bound says that two numbers of a type make one of the next.
 #[tactic(auto, unfolding(crate::specs::Bytes::half))]
 pub(crate) fn half(file: &[u8], at: usize) -> u16
     requires { at ≤ 2 ^ 40 }

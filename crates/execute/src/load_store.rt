@@ -16,6 +16,7 @@ fn effective(base: u64, offset: u64) -> VAddr
 }
 
 // A load asks for its address.
+// Kept: here and below one struct each.
 #[tactic(auto, unfolding(crate::specs::LoadStore::load))]
 pub fn load(op: LoadOp, rt: usize, base: u64, offset: u64) -> Act
     ensures { result ≡ LoadStore.load op rt base offset }

@@ -15,6 +15,7 @@ fn branch_target(pc: u64, offset: u64) -> u64
 }
 
 // A plain branch has its slot, taken or not.
+// Kept: here and below two rules, of a plain branch and of a likely one.
 #[tactic(auto, unfolding(crate::specs::Branches::plain))]
 fn plain(taken: bool, link: usize, pc: u64, offset: u64) -> Act
     ensures { result ≡ Branches.plain taken link pc offset }

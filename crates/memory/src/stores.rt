@@ -7,6 +7,7 @@ ghost use Rattle.memory.specs.Stores as S;
 use crate::{BusError, PAddr, Store, byte, in_ram};
 
 // SB: the low byte.
+// Kept: here and below one struct for each size, as short as a call of a shared function.
 pub fn sb(p: PAddr, value: u64) -> Store
     ensures { result ≡ S.sb p value }
 {

@@ -18,6 +18,7 @@ pub fn double_load(op: LoadOp) -> bool
 }
 
 // A store of a doubleword.
+// Kept: here and below a rule for each group of operations, since each has a type of its own.
 pub fn double_store(op: StoreOp) -> bool
     ensures { result ≡ W.double_store op }
 {

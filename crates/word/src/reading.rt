@@ -20,6 +20,7 @@ pub fn extend(x: u64) -> u64
 }
 
 // The low half of a word, sign-extended.
+// Kept: here and below two functions, since no bound says that a type is read as signed.
 pub fn extend_half(x: u64) -> u64
     ensures { result ≡ Word.extend_half x }
 {

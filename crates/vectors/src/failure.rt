@@ -22,6 +22,7 @@ impl From<io::Error> for Failure {
 
 impl Failure {
     // Says why, and how the program so ends.
+    // Kept: no `Display`, since the line and the end that goes with it stand side by side.
     pub(crate) fn say<R: Eprint>(self, rt: &R) -> End {
         match self {
             Failure::Arguments => program::misused(

@@ -58,6 +58,7 @@ fn print_image<R: Files + Print>(rt: &R, base: &[u8], image: &[u8]) -> Result<()
 }
 
 // Prints the base, then the answers to all images of a file, up to the first that cannot be given.
+// Kept: a loop with no count, since each image says how long it is.
 fn print_all<R: Files + Print>(rt: &R, base: &[u8], file: &[u8]) -> Result<(), Failure> {
     rt.write_all(base)?;
     let mut rest = file;

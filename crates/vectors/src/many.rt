@@ -13,6 +13,7 @@ pub(crate) fn line_len(text: &[u8]) -> usize
 }
 
 // How long the image at the start of a file is: its first line, and all lines before the next header.
+// Kept: a loop with no count, since each line says where the next begins.
 pub(crate) fn image_len(file: &[u8]) -> usize
     ensures lower_bound { 0 < length file.now → 0 < result }
     ensures upper_bound { result ≤ length file.now }

@@ -17,15 +17,15 @@ use std::env::Env;
 use std::io::Read;
 use std::rt::Files;
 
-// Room for all images, and for one byte more.
-fn images() -> [u8; 2097153]
-    ensures { 2097153 ≡ length result }
-{
-    [0; 2097153]
-}
-
 // So many bytes of images may come.
 const MOST: usize = 2_097_152;
+
+// Room for all images, and for one byte more.
+fn images() -> [u8; MOST + 1]
+    ensures { 2097153 ≡ length result }
+{
+    [0; MOST + 1]
+}
 
 // Prints an image's title, and what of its answer differs from the base.
 fn print_answer<R: Print>(

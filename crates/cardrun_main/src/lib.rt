@@ -8,6 +8,11 @@ use program::End;
 use std::env::Env;
 use std::io::Read;
 
+// So many bytes an image may have, and its RAM.
+const TEXT: usize = 65536;
+
+const RAM: usize = 65536;
+
 // The text that answers an image; RAM is what the image asks for, and there is no ROM and no interrupt line.
 fn answer_to(text: &[u8], ram: &mut [u8], out: &mut [u8]) -> usize
     ensures { Wrote out.old 0 (printed text.now ram.old) result out.new }
@@ -21,7 +26,7 @@ fn answer_to(text: &[u8], ram: &mut [u8], out: &mut [u8]) -> usize
 
 // Answers an image: every answer fits the room.
 fn answer_image<R: Print + Eprint>(rt: &R, text: &[u8]) -> End {
-    let mut ram = [0u8; 65536];
+    let mut ram = [0u8; RAM];
     let mut out = [0u8; 1024];
     let n = answer_to(text, &mut ram, &mut out);
     program::give(
@@ -39,7 +44,7 @@ pub fn cardrun<R: Env + Print + Eprint, I: Read>(rt: &R, input: &mut I) -> End {
             b"cardrun: no arguments are taken; the image is standard input\n",
         );
     }
-    let mut text = [0u8; 65537];
+    let mut text = [0u8; TEXT + 1];
     let Ok(n) = program::read_whole(input, &mut text) else {
         return program::unread(rt, b"cardrun: standard input cannot be read\n");
     };

@@ -26,6 +26,7 @@ pub(crate) fn lines_given<R: Env>(rt: &R) -> Option<u8> {
     if !program::has_arg(rt, 1) {
         return Some(0);
     }
+    // Kept: three lines here and at each other argument, since a function that lends the word to a closure would have to require that it may be called.
     let mut word = io::buffer();
     let n = rt.arg(1, &mut word).ok()?;
     lines_of(&word[..n])

@@ -13,6 +13,15 @@ use std::env::Env;
 use std::io::Read;
 use std::rt::Files;
 
+// So many bytes an image may have, its RAM and the boot ROM; and room for an answer.
+const TEXT: usize = 65536;
+
+const RAM: usize = 65536;
+
+const ROM: usize = 4_194_304;
+
+const ROOM: usize = 262_144;
+
 // Writes the text that answers an image, run with a ROM and interrupt lines, and says where it ends.
 pub fn answer_to(text: &[u8], ram: &mut [u8], rom: &[u8], lines: u8, out: &mut [u8]) -> usize
     ensures answer { Wrote out.old 0 (printed text.now ram.old rom.now lines) result out.new }
@@ -30,8 +39,8 @@ pub fn answer_to(text: &[u8], ram: &mut [u8], rom: &[u8], lines: u8, out: &mut [
 
 // Answers an image: every answer fits the room.
 fn answer_image<R: Print + Eprint>(rt: &R, text: &[u8], rom: &[u8], lines: u8) -> End {
-    let mut ram = [0u8; 65536];
-    let mut out = [0u8; 262144];
+    let mut ram = [0u8; RAM];
+    let mut out = [0u8; ROOM];
     let n = answer_to(text, &mut ram, rom, lines, &mut out);
     program::give(
         rt,
@@ -42,7 +51,7 @@ fn answer_image<R: Print + Eprint>(rt: &R, text: &[u8], rom: &[u8], lines: u8) -
 
 // Reads the image and answers it; one byte more than an image may have is read, and no further.
 fn answer_input<R: Print + Eprint, I: Read>(rt: &R, input: &mut I, rom: &[u8], lines: u8) -> End {
-    let mut text = [0u8; 65537];
+    let mut text = [0u8; TEXT + 1];
     let Ok(n) = program::read_whole(input, &mut text) else {
         return program::unread(rt, b"cardstate: standard input cannot be read\n");
     };
@@ -53,7 +62,7 @@ fn answer_input<R: Print + Eprint, I: Read>(rt: &R, input: &mut I, rom: &[u8], l
 fn start<R: Env + Files + Print + Eprint, I: Read>(
     rt: &R,
     input: &mut I,
-    room: &mut [u8; 4194305],
+    room: &mut [u8; ROM + 1],
     lines: u8,
 ) -> End {
     let Ok(n) = arguments::read_rom(rt, room) else {
@@ -70,6 +79,6 @@ pub fn cardstate<R: Env + Files + Print + Eprint, I: Read>(rt: &R, input: &mut I
             b"cardstate: the arguments are [LINES [ROM]]: interrupt lines, one or two lowercase hexadecimal digits, and the boot ROM's file\n",
         );
     };
-    let mut room = [0u8; 4194305];
+    let mut room = [0u8; ROM + 1];
     start(rt, input, &mut room, lines)
 }

@@ -111,7 +111,7 @@ fn blank(file: &[u8], p: usize) -> bool
 }
 
 // No code at a vector.
-// Kept: a loop over the two, tried, proves only with an invariant that is longer than the tests.
+// Kept: two tests, since a loop over the two needs an invariant that is longer than they are.
 #[tactic(auto, unfolding(crate::specs::Made::vector_refusal))]
 fn vector_refusal(file: &[u8], n: u8) -> Result<(), Refusal>
     ensures { result ≡ M.vector_refusal file.now n }

@@ -23,6 +23,7 @@ struct Text<'a> {
 }
 
 // Digit k of a number, from the right.
+// Kept: one shift, as short as a call of a function that digits and bytes would share.
 fn digit(x: u64, k: u64) -> u8
     requires { k < 16 }
     ensures { result ≡ D.digit x k }

@@ -48,6 +48,7 @@ fn poke(bytes: &mut [u8], from: u64, words: &[u64]) {
 }
 
 // The boot ROM, the handler and a program's three tables go to ROM and RAM.
+// Kept: a match, since it picks data and no step.
 fn put_program(program: Program, rom: &mut [u8], ram: &mut [u8]) {
     let tables = match program {
         Program::Sweep => SWEEP,

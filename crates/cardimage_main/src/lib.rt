@@ -15,6 +15,7 @@ use std::io::Read;
 use std::rt::Files;
 
 // So many bytes the files may have together, and the settings.
+// Kept: buffers with a length beside them, since nothing is allocated.
 const FILES: usize = 4_194_304;
 
 const SETTINGS: usize = 65536;

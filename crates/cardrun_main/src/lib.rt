@@ -9,6 +9,7 @@ use std::env::Env;
 use std::io::Read;
 
 // So many bytes an image may have, and its RAM.
+// Kept: buffers with a length beside them, since nothing is allocated.
 const TEXT: usize = 65536;
 
 const RAM: usize = 65536;

@@ -14,6 +14,7 @@ use std::io::Read;
 use std::rt::Files;
 
 // So many bytes an image may have, its RAM and the boot ROM; and room for an answer.
+// Kept: buffers with a length beside them, since nothing is allocated.
 const TEXT: usize = 65536;
 
 const RAM: usize = 65536;

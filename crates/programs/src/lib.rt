@@ -8,6 +8,7 @@ use std::io::Read;
 use std::rt::Files;
 
 // The status of `cardrun`.
+// Kept: here and below one function for each program, since docs/PROMISES.md names them.
 pub fn cardrun_status<R: Env + Print + Eprint, I: Read>(rt: &R, input: &mut I) -> i32
     ensures { IsStatus result }
 {

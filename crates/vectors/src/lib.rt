@@ -18,6 +18,7 @@ use std::io::Read;
 use std::rt::Files;
 
 // So many bytes of images may come.
+// Kept: buffers with a length beside them, since nothing is allocated.
 const MOST: usize = 2_097_152;
 
 // Room for all images, and for one byte more.

@@ -25,7 +25,7 @@ one_more f n i h = ap f (let e : n - i ≡ suc (n - (i + 1)) = omega arith in e)
 pub no_more : {A : Type 0} (f : ℕ → A) (n i : ℕ) → n ≤ i → f (n - i) ≡ f 0
 no_more f n i h = ap f (let e : n - i ≡ 0 = omega arith in e)
 
--- the section, the symbol and the header that is found first, of n
+-- the section and the symbol that is found first, of n
 module _ (file : List ℕ) (n : ℕ) (r : Option ℕ) where
   module _ (name : List ℕ) (e : option_map (λ (x : ℕ). x) r ≡ find (λ (i : ℕ). eqb (section file i).kind 2) (range_with_len 0 n)) where
     pub section_some : (x : ℕ) → r ≡ Some x → symbol_by file (section file x) name ≡ symbol_of file name n 0
@@ -55,15 +55,6 @@ module _ (file : List ℕ) (n : ℕ) (r : Option ℕ) where
     unfolding symbol_from
     symbol_none q = found_none (λ (j : ℕ). is_symbol file names name (from + 16 * j)) (λ (j : ℕ). Some (word file (from + 16 * j + 4))) None SymbolFrom (λ k. refl) next n 0 r e q ∙ start
 
-  module _ (space : Space) (a : ℕ) (e : option_map (λ (x : ℕ). x) r ≡ find (λ (i : ℕ). covers space file (header file i) a) (range_with_len 0 n)) where
-    pub stands_some : (x : ℕ) → r ≡ Some x → byte_of file (header file x) (home space (header file x).vaddr) a ≡ stands_from space file a n 0
-    unfolding stands_from
-    stands_some = found_some (λ (i : ℕ). covers space file (header file i) a) (λ (i : ℕ). byte_of file (header file i) (home space (header file i).vaddr) a) 0 (stands_from space file a) (λ k. refl) (λ left k. refl) n 0 r e
-
-    pub stands_none : r ≡ None → 0 ≡ stands_from space file a n 0
-    unfolding stands_from
-    stands_none = found_none (λ (i : ℕ). covers space file (header file i) a) (λ (i : ℕ). byte_of file (header file i) (home space (header file i).vaddr) a) 0 (stands_from space file a) (λ k. refl) (λ left k. refl) n 0 r e
-
 -- the headers from i on, of n
 module _ (file : List ℕ) (n i : ℕ) where
   module _ (space : Space) where
@@ -74,6 +65,14 @@ module _ (file : List ℕ) (n i : ℕ) where
     pub segments_done : n ≤ i → segments_fault space file (n - i) i ≡ none
     unfolding segments_fault
     segments_done h = no_more (λ (k : ℕ). segments_fault space file k i) n i h
+
+    pub stands_turn : (a : ℕ) → i < n → stands_from space file a (n - i) i ≡ pick (covers space file (header file i) a) (byte_of file (header file i) (home space (header file i).vaddr) a) (stands_from space file a (n - (i + 1)) (i + 1))
+    unfolding stands_from
+    stands_turn a h = one_more (λ (k : ℕ). stands_from space file a k i) n i h
+
+    pub stands_done : (a : ℕ) → n ≤ i → stands_from space file a (n - i) i ≡ 0
+    unfolding stands_from
+    stands_done a h = no_more (λ (k : ℕ). stands_from space file a k i) n i h
 
 -- what notes reach, as a fold over the headers
 pub reach_is : (file : List ℕ) (left i far : ℕ) → fold (λ (r k : ℕ). raised (header file k) r) far (range_with_len i left) ≡ reach_from file left i far

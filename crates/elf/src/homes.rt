@@ -78,11 +78,11 @@ fn byte_of(file: &[u8], h: Header, b: usize, a: usize) -> u8
 pub fn stands(space: Space, file: &[u8], a: usize) -> u8
     ensures { result ≡ Homes.stands space file.now a }
 {
-    match (0..many(file)).find(|i| covers(space, file, header(file, *i), a)) {
-        Some(i) => {
-            let h = header(file, i);
-            byte_of(file, h, home(space, h.vaddr) as usize, a)
+    for i in 0..many(file) {
+        let h = header(file, i);
+        if covers(space, file, h, a) {
+            return byte_of(file, h, home(space, h.vaddr) as usize, a);
         }
-        None => 0,
     }
+    0
 }

@@ -5,6 +5,8 @@ use denote.Param.Laws.{Laws}
 use mir.Syntax.{Dict}
 use Rattle.std.specs.declared.io.Eprint.{Ghosts}
 use Rattle.promise.specs.Unique.{Unique, same}
+use Rattle.program.proofs.end_of.Kinds as end_of-kinds
+use Rattle.program.proofs.end_of.Reads as end_of-reads
 use Rattle.program.proofs.exit_code.Kinds as exit_code-kinds
 use Rattle.program.proofs.exit_code.Reads as exit_code-reads
 use Rattle.program.proofs.hex_digit.Kinds as hex_digit-kinds
@@ -47,3 +49,6 @@ module _ (T : RattleType) (L : Laws T) (R : Ghosts T.Denot) (D : Dict) where
 
   pub refused_once : Unique (refused-kinds.ps T L) (refused-kinds.r T L) (refused-reads.Pre T L R D) (refused-reads.Post T L R D)
   refused_once κs a p z₁ z₂ ws₁ ws₂ h₁ h₂ = (same h₁ h₂, refl)
+
+  pub end_of_once : Unique (end_of-kinds.ps T L) (end_of-kinds.r T L) (end_of-reads.Pre T L R D) (end_of-reads.Post T L R D)
+  end_of_once κs a p z₁ z₂ ws₁ ws₂ h₁ h₂ = (same h₁ h₂, refl)

@@ -147,7 +147,7 @@ fn ended<R: Eprint>(rt: &R, end: End, line: &[u8]) -> End
 }
 
 // How a program ends by whether all of its answer was written; where it was not, with a line.
-fn end_of<R: Eprint>(rt: &R, written: bool, line: &[u8]) -> End
+pub fn end_of<R: Eprint>(rt: &R, written: bool, line: &[u8]) -> End
     ensures { result ≡ end_of written }
 {
     if written {

@@ -1,9 +1,9 @@
 // An image's header: `# NAME LINES ROM`, four words with one space between each and the next.
 
-// The image's name, the interrupt lines, which are two digits, and the boot ROM's file.
+// The title, which is `# NAME`, the interrupt lines, which are two digits, and the boot ROM's file.
 #[derive(Clone, Copy)]
 pub struct Header<'a> {
-    pub name: &'a [u8],
+    pub title: &'a [u8],
     pub lines: u8,
     pub rom: &'a [u8],
 }
@@ -22,5 +22,6 @@ pub(crate) fn read<'a>(line: &'a [u8]) -> Option<Header<'a>> {
         return None;
     };
     let lines = program::two_hex_digits(*a, *b)?;
-    Some(Header { name, lines, rom })
+    let title = line.get(..hash.len() + 1 + name.len())?;
+    Some(Header { title, lines, rom })
 }

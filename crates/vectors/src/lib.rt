@@ -28,22 +28,32 @@ fn images() -> [u8; MOST + 1]
     [0; MOST + 1]
 }
 
-// Prints an image's title, and what of its answer differs from the base.
-fn print_answer<R: Print>(
+// Prints what of an image's answer differs from the base. By itself, so that the room for the answer is filled once.
+fn print_state<R: Print>(
     rt: &R,
     base: &[u8],
-    name: &[u8],
     lines: u8,
     rom: &[u8],
     text: &[u8],
 ) -> Result<(), Failure> {
-    rt.write_all(b"# ")?;
-    rt.write_all(name)?;
-    rt.write_all(b"\n")?;
     let mut out = answers::buffer();
     let n = answers::answer(text, lines, rom, &mut out);
     differing::print_differing(rt, base, &out[..n])?;
     Ok(())
+}
+
+// Prints an image's title, and what of its answer differs from the base.
+fn print_answer<R: Print>(
+    rt: &R,
+    base: &[u8],
+    title: &[u8],
+    lines: u8,
+    rom: &[u8],
+    text: &[u8],
+) -> Result<(), Failure> {
+    rt.write_all(title)?;
+    rt.write_all(b"\n")?;
+    print_state(rt, base, lines, rom, text)
 }
 
 // Answers one image: its header, and its text.
@@ -55,7 +65,7 @@ fn print_image<R: Files + Print>(rt: &R, base: &[u8], image: &[u8]) -> Result<()
         return Err(Failure::Rom);
     }
     let text = &image[many::line_len(image)..];
-    print_answer(rt, base, header.name, header.lines, &room[..n], text)
+    print_answer(rt, base, header.title, header.lines, &room[..n], text)
 }
 
 // Prints the base, then the answers to all images of a file, up to the first that cannot be given.

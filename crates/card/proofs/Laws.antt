@@ -28,7 +28,7 @@ module _ (cpu : Cpu) (cp0 : Cp0) (regs tlb ram rom : List ℕ) (lines : ℕ) (e 
 
 -- ---- the loop
 
-plus_plus : (i k : ℕ) (w : Whole) → plus i (plus k w) ≡ plus (i + k) w
+pub plus_plus : (i k : ℕ) (w : Whole) → plus i (plus k w) ≡ plus (i + k) w
 plus_plus i k w = let e : i + (k + w.steps) ≡ i + k + w.steps = omega arith in ap (λ (n : ℕ). whole w.machine w.ram n w.stop) e
 
 plus_zero : (w : Whole) → plus 0 w ≡ w

@@ -1,16 +1,23 @@
 -- Refusals: the four tests in order give one of five verdicts, and each number is that of just one of them.
-use Prim.Native.Nat.{ℕ, ◌≤◌}
+use Prim.Native.Nat.{ℕ, ◌%◌, ◌≤◌}
 use native.Mathlib.Omega.{arith}
 use mathlib.Core.Path.{◌≡◌, refl, ◌∙◌, ap}
 use mathlib.Core.Bool.{true}
 use mathlib.Core.Logic.{◌⊎◌, ◌↔◌, inl, inr}
 use lib.ListN.{length}
-use Rattle.card.specs.Run.{Whole, whole, ram_fits, refusal_by, refusal, run_of}
+use Rattle.card.specs.Run.{Whole, whole, eights, ram_fits, refusal_by, refusal, run_of}
 use Rattle.demands.specs.Call.{Call, run}
 use Rattle.demands.specs.Refusals.{RamFits, BadRam, BadRom, BadLines, BadMachine, Accepted, Refusals}
 use Rattle.demands.specs.Runs.{after}
 use Rattle.demands.proofs.StepStops.{stop_least}
 use Rattle.demands.proofs.Runs.{On, Stops, ends}
+
+-- the test of a length, in plain inequalities
+pub eights_read : (least most n : ℕ) → eights least most n ≡ true → (n % 8 ≡ 0) × (least ≤ n) × (n ≤ most)
+eights_read least most n e = (grind arith, grind arith, grind arith)
+
+pub eights_made : (least most n : ℕ) → n % 8 ≡ 0 → least ≤ n → n ≤ most → eights least most n ≡ true
+eights_made least most n a b c = grind arith
 
 module _ (c : Call) where
   abbrev number : ℕ

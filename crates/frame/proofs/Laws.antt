@@ -49,8 +49,12 @@ value_lt : (x : ℕ) → unwrap_or (digit x) 0 < 16
 value_lt x = grind (arith, nat_tests)
 
 -- sixteen digits have room in 64 bits
-room : (i v d : ℕ) → i < 16 → v < 16 ^ i → d < 16 → (v * 16 + d < 16 ^ (i + 1)) × (v * 16 + d < 2 ^ 64)
-room i v d h b r =
+pub room : (left v : ℕ) → v < 16 ^ (16 - left) → v < 2 ^ 64
+room left v r = lt_of_lt_of_le r (pow-le-pow_right {n = 16} (omega arith) {i = 16 - left} {j = 16} (omega arith))
+
+-- so has a number with one digit more
+room_after : (i v d : ℕ) → i < 16 → v < 16 ^ i → d < 16 → (v * 16 + d < 16 ^ (i + 1)) × (v * 16 + d < 2 ^ 64)
+room_after i v d h b r =
     let k : v * 16 + d < 16 ^ (i + 1) = rw (add-one, pow-suc 16 i) (omega arith) in
     (k, lt_of_lt_of_le k (pow-le-pow_right {n = 16} (omega arith) {i = i + 1} {j = 16} (omega arith)))
 
@@ -61,7 +65,7 @@ module _ (l : List ℕ) (at i many v : ℕ) (h : i < many) where
 
   -- with it the number has room
   pub fits : (d : ℕ) → d ≡ unwrap_or (digit (get_or (take (at + many - at) (drop at l)) i 0)) 0 → many ≤ 16 → v < 16 ^ i → (v * 16 + d < 16 ^ (i + 1)) × (v * 16 + d < 2 ^ 64)
-  fits d q k b = room i v d (omega arith) b (rw q (value_lt (get_or (take (at + many - at) (drop at l)) i 0)))
+  fits d q k b = room_after i v d (omega arith) b (rw q (value_lt (get_or (take (at + many - at) (drop at l)) i 0)))
 
   -- it comes before those that are left
   pub number_next : (d : ℕ) → d ≡ unwrap_or (digit (get_or (take (at + many - at) (drop at l)) i 0)) 0 → number_from l (at + i) (many - i) v ≡ number_from l (at + (i + 1)) (many - (i + 1)) (v * 16 + d)

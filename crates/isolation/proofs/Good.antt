@@ -68,9 +68,15 @@ unfolding execute
 plainly i pc a b hi lo f = grind (arith, plain)
 
 -- where CP0 is locked no CP0 instruction goes on
+pub goes_plain : (slot : Bool) (d : Result Instr Undecoded) (i : Instr) → ready true false slot d ≡ Ok i → is_cp0 i ≡ false
+unfolding ready usable allowed in_place reserved_cop0
+goes_plain slot d i e = grind arith
+
+-- so none comes to a command
 pub no_command : (slot : Bool) (d : Result Instr Undecoded) (i : Instr) (pc a b hi lo : ℕ) (c : Command) → ready true false slot d ≡ Ok i → execute i pc a b hi lo ≡ done.Command c → ⊥
-unfolding ready usable allowed in_place reserved_cop0 execute
-no_command slot d i pc a b hi lo c e f = grind arith
+no_command slot d i pc a b hi lo c e f =
+    let p : Plainly (done.Command c) = rw f at (plainly i pc a b hi lo (goes_plain slot d i e)) in
+    elim p [ ]
 
 -- what a store sends out stays in the eight bytes of its address
 out_near : (op : StoreOp) (p : PAddr) (value : ℕ) → (goes_out op p value).to.0 / 8 ≡ p.0 / 8

@@ -52,7 +52,7 @@ full_none file None e = refl
 full_none file (Some k) e = cc
 
 -- two lists of the same numbers are equal
-same_equal : (a b : List ℕ) → same a b ≡ true → a ≡ b
+pub same_equal : (a b : List ℕ) → same a b ≡ true → a ≡ b
 same_equal a b e = same_text a b (sym e)
 
 -- a machine that is as a User program's is to start
